@@ -1,11 +1,10 @@
 //! Rows that are looked at before they are printed.
-ghost use Rattle.std.specs.Prelude.{◌≡◌, ◌<◌, ◌≤◌, OnOk, length};
+ghost use Rattle.std.specs.Prelude.{◌≡◌, ◌<◌, ◌≤◌, length};
 ghost use Rattle.wvalues.specs.Meaning.{Null, meaning};
 
 use crate::batch::BATCH;
 use crate::row::{Row, field_at};
 use crate::rows::{Lie, Rows};
-use std::alloc::AllocError;
 use wcolumns::{Column, Field, OtherRows};
 use wvalues::Value;
 
@@ -109,20 +108,21 @@ fn seem_texts<R: Rows>(
 /// Nothing is done between one value and the next, so that the processor has many of them on their way from memory at once, and
 /// finds them near when they are printed. Where rows lie apart, the cells are looked at before the texts that they lead to; where
 /// they lie together, places of numbers are left out, since their cells are near. Values that other rows have lie apart however the
-/// rows lie, and are looked at by the numbers that are kept for them; counts are left out.
+/// rows lie, and are looked at by the numbers that are kept for them; counts are left out. Where the texts find no room, they make
+/// it as they are added: this is a matter of speed alone.
 pub(crate) fn look_ahead<R: Rows>(
     bytes: &mut Vec<u8>,
     rows: &R,
     null: &Value,
     places: &[usize],
     row: usize,
-) -> Result<(), AllocError>
+)
     requires null { meaning null.now ≡ Null }
     requires within { row < length (R.rows rows.now) }
-    ensures { OnOk result (bytes.new.items ≡ bytes.old.items) }
+    ensures { bytes.new.items ≡ bytes.old.items }
 {
     if row % AHEAD != 0 {
-        return Ok(());
+        return;
     }
     let end = rows.count().min(row.saturating_add(AHEAD));
     let lie = rows.lie(row, end);
@@ -132,5 +132,5 @@ pub(crate) fn look_ahead<R: Rows>(
             room = room.saturating_add(room_at(rows, null, *place, row, end));
         }
     }
-    bytes.reserve(room)
+    let _ = bytes.reserve(room);
 }

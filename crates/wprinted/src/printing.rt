@@ -60,7 +60,7 @@ fn push_rows<R: Rows>(
     let mut row = 0;
     while row < count {
         foresee(bytes, row, count);
-        look_ahead(bytes, rows, null, places, row)?;
+        look_ahead(bytes, rows, null, places, row);
         let end = count.min(row.saturating_add(BATCH));
         push_batch(
             bytes,

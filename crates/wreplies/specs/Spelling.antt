@@ -72,6 +72,7 @@ file_text files.Truncated = codes "refused X2\n"
 file_text files.NotRising = codes "refused X3\n"
 file_text files.OtherCount = codes "refused X4\n"
 file_text files.OtherSchema = codes "refused X5\n"
+file_text (files.Segment segments.NoMemory) = no_memory
 file_text (files.Segment fault) = codes "refused X6 " ++ segment_words fault
 file_text files.Trailing = codes "refused X7\n"
 file_text files.OtherDigest = codes "refused X8\n"

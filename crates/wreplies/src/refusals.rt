@@ -58,7 +58,7 @@ fn refused_segment_of_file(alloc: Global, fault: SegmentFault) -> Result<Text, A
             refused_at(alloc, b"refused X6 S8 row ", u64::from(row))
         }
         SegmentFault::TooManyRows => Ok(Text::Fixed(b"refused X6 S9\n")),
-        SegmentFault::NoMemory => Ok(Text::Fixed(b"refused X6 ")),
+        SegmentFault::NoMemory => Ok(Text::Fixed(b"no memory\n")),
     }
 }
 

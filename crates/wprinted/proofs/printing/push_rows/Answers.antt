@@ -14,7 +14,7 @@ loop-row-preserved g c =
     let within : end ≤ c.count-count.result = omega (arith, c.min-end.ensures) in
     record {
       written = c.in_ok-push_batch.ensures
-          ∙ ap (λ front. front ++ lines_text (rows_between row end (map values all))) (c.in_ok-look_ahead.ensures ∙ c.foresee.ensures
+          ∙ ap (λ front. front ++ lines_text (rows_between row end (map values all))) (c.look_ahead.ensures ∙ c.foresee.ensures
           ∙ c.loop-row.invariant.written)
           ∙ append_assoc c.args.bytes.now.items (lines_text (rows_between 0 row (map values all)))
           (lines_text (rows_between row end (map values all)))
