@@ -6,14 +6,48 @@ use crate::names::{Spot, find_name};
 use crate::scene::Written;
 use std::alloc::{AllocError, Global};
 use wgrammar::{Stop, follow};
-use wlexer::{Lexeme, Token};
+use wlexer::{Keyword, Lexeme, Token};
 use wparser::parse;
 use wsegment::Schema;
 use wshown::push_place;
 
+// Whether no query has this keyword, as what it stands for elsewhere in SQL is no part of the language.
+fn is_unused(keyword: Keyword) -> bool {
+    matches!(
+        keyword,
+        Keyword::All
+            | Keyword::Case
+            | Keyword::Cast
+            | Keyword::Cross
+            | Keyword::Distinct
+            | Keyword::Except
+            | Keyword::Exists
+            | Keyword::False
+            | Keyword::Fetch
+            | Keyword::For
+            | Keyword::Full
+            | Keyword::Inner
+            | Keyword::Intersect
+            | Keyword::Join
+            | Keyword::Left
+            | Keyword::Like
+            | Keyword::Natural
+            | Keyword::On
+            | Keyword::Outer
+            | Keyword::Right
+            | Keyword::True
+            | Keyword::Union
+            | Keyword::Using
+            | Keyword::With
+    )
+}
+
 // What is told of a token that cannot stand where it does.
 fn note_of(token: &Token) -> &'static str {
     match &token.lexeme {
+        Lexeme::Keyword(keyword) if is_unused(*keyword) => {
+            "no query has this word: as a name it stands in double quotes"
+        }
         Lexeme::Keyword(_) => "a keyword: as a name it stands in double quotes",
         _ => "",
     }
