@@ -54,7 +54,8 @@ pub(crate) const TAKE: &str = "Take the rows of a CSV file into the store, under
 
 pub(crate) const AFTER_TAKE: &str = "\
 ORIGIN and NUMBER together are the name of the rows, as 'east 1': who made them, and which of theirs they are.
-A number is 1 to 999999999, without leading zeros. Other rows need another name. The first line of CSV names the table's columns, in any order.
+A number is 1 to 999999999, without leading zeros. Other rows need another name. The first line of CSV names
+the table's columns, in any order.
 
 Prints:
   taken     the name is new, and its rows count

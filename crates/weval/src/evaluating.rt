@@ -14,8 +14,8 @@ ghost use Rattle.weval.specs.declared.cell.EvalFault.TheVariants.{NoMemory};
 use crate::cell::{Cell, EvalFault};
 use crate::leaves::{between_in_place, compared_in_place};
 use crate::operating::{
-    applied, between_truth, cell_among, cells_compared, negated_cell, null_cell, signed_cell,
-    turned_truth,
+    applied, between_cell, cell_among, cells_compared, compared_cell, negated_cell, null_cell,
+    signed_cell, turned_truth,
 };
 use std::rc::RcStr;
 use wplan::{Expr, Further};
@@ -77,10 +77,7 @@ pub fn eval(e: &Expr, row: &[Value]) -> Result<Cell, EvalFault>
             right,
         } => match compared_in_place(*comparison, left, right, row) {
             Some(truth) => Ok(Cell::Truth(truth)),
-            None => {
-                let (x, y) = (eval(left, row)?, eval(right, row)?);
-                Ok(Cell::Truth(cells_compared(*comparison, &x, &y)))
-            }
+            None => Ok(compared_cell(*comparison, &eval(left, row)?, &eval(right, row)?)),
         },
         Expr::IsNull { negated, operand } => Ok(null_cell(*negated, &eval(operand, row)?)),
         Expr::Between {
@@ -91,10 +88,8 @@ pub fn eval(e: &Expr, row: &[Value]) -> Result<Cell, EvalFault>
         } => match between_in_place(operand, low, high, row) {
             Some(truth) => Ok(Cell::Truth(turned_truth(*negated, truth))),
             None => {
-                let x = eval(operand, row)?;
-                let y = eval(low, row)?;
-                let z = eval(high, row)?;
-                Ok(Cell::Truth(turned_truth(*negated, between_truth(&x, &y, &z))))
+                let (x, y, z) = (eval(operand, row)?, eval(low, row)?, eval(high, row)?);
+                Ok(between_cell(*negated, &x, &y, &z))
             }
         },
         Expr::In {
@@ -106,10 +101,7 @@ pub fn eval(e: &Expr, row: &[Value]) -> Result<Cell, EvalFault>
             negated,
             operand,
             list,
-        } => {
-            let found = cell_among(&eval(operand, row)?, list);
-            Ok(Cell::Truth(turned_truth(*negated, found)))
-        }
+        } => Ok(Cell::Truth(turned_truth(*negated, cell_among(&eval(operand, row)?, list)))),
     }
 }
 

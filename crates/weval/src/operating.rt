@@ -109,6 +109,13 @@ pub(crate) fn cells_compared(comparison: Comparison, x: &Cell, y: &Cell) -> Trut
     }
 }
 
+/// How two values compare, as a truth.
+pub(crate) fn compared_cell(comparison: Comparison, x: &Cell, y: &Cell) -> Cell
+    ensures { outcome result ≡ Judged (compared comparison (value_in (outcome x.now)) (value_in (outcome y.now))) }
+{
+    Cell::Truth(cells_compared(comparison, x, y))
+}
+
 // Whether a value is equal to one of a list's constants.
 fn value_among(x: &Value, list: &Constants) -> Truth
     ensures { (row : List Meaning) → is_among row (meaning x.now) No (formulas (map constant list.now)) ≡ Judged result }
@@ -163,13 +170,21 @@ pub(crate) fn negated_cell(x: &Cell) -> Cell
     Cell::Truth(x.truth().not())
 }
 
-/// BETWEEN.
-pub(crate) fn between_truth(x: &Cell, low: &Cell, high: &Cell) -> Truth
+// Whether a value lies between two.
+fn between_truth(x: &Cell, low: &Cell, high: &Cell) -> Truth
     ensures { result ≡ between (value_in (outcome x.now)) (value_in (outcome low.now)) (value_in (outcome high.now)) }
 {
     let above = cells_compared(Comparison::GreaterOrEqual, x, low);
     let below = cells_compared(Comparison::LessOrEqual, x, high);
     above.and(below)
+}
+
+/// BETWEEN, or NOT BETWEEN.
+pub(crate) fn between_cell(negated: bool, x: &Cell, low: &Cell, high: &Cell) -> Cell
+    ensures { outcome result ≡ Judged (turned negated (between (value_in (outcome x.now)) (value_in (outcome low.now))
+        (value_in (outcome high.now)))) }
+{
+    Cell::Truth(turned_truth(negated, between_truth(x, low, high)))
 }
 
 /// A sign before a number.

@@ -1,7 +1,8 @@
 //! Queries with each name and default resolved.
 //!
 //! - Gives the form of a query that execution reads: a list of SELECTs, the innermost first, with places for names.
-//! - Promises: nothing of any call. What the form says, wherever its parts lie in memory, is `formula` and `plans`.
+//! - Promises: what the form says, wherever its parts lie in memory, is `formula` and `plans`. Constants of an IN have what their
+//!   list has, number by number and text by text.
 //! - Asks: nothing.
 //! - Leaves: resolving to `wresolve`, values of expressions to `weval`, which windows share an order to `wshare`, the meaning
 //!   of a whole query to `wplanner`.

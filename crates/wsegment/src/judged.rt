@@ -96,7 +96,7 @@ impl Judged {
         })
     }
 
-    /// The declaration that they are judged by.
+    /// A declaration by which the bytes are these rows, of as many columns: the one that they were read by.
     pub fn schema(&self) -> &Schema
         ensures rows { rows_of result.now self.now.bytes ≡ Ok self.now.rows }
         ensures columns { self.now.columns ≡ length result.now.columns }

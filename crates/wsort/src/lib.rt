@@ -1,9 +1,9 @@
 //! Rows in the order of their keys, by codes.
 //!
 //! - Gives the numbers of rows in the order of their keys, the first of them, and codes of rows that have one key.
-//! - Promises: ties are broken by number. Rows are sorted by codes of 32 bits. Rows of two keys are dealt by the first and
-//!   sorted there by the second, where the first has few values, and else rows are sorted a key at a time, the last one
-//!   first.
+//! - Promises: the one order of the rows by their keys, in which ties are broken by number.
+//! - How, which no clause says: rows are sorted by codes of 32 bits. Rows of two keys are dealt by the first and sorted there by
+//!   the second, where the first has few values, and else rows are sorted a key at a time, the last one first.
 //! - Asks: an order for each key; for rows by number, keys that are laid out one row after another.
 //! - Leaves: the codes of a column's values to `wcodes`, and what keys come to on a row to `wrows`.
 //!

@@ -34,7 +34,7 @@ pub struct NumberedRows<'a> {
     /// For each live segment, by name, how many rows of the table stand before its first one.
     pub starts: Vec<usize>,
     /// For each row of the table, by name and then by place, its number among the kept rows, `u32::MAX` where it is left out.
-    /// None where all rows are kept: then its number is its place in the table.
+    /// None where there is no condition: then all rows are kept, and the number of each is its place in the table.
     pub numbers: Option<Vec<u32>>,
 }
 

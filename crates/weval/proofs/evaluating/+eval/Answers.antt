@@ -78,5 +78,5 @@ eval_among-returns-in_err-y-clause-memory t c = λ h.
 pub eval-returns-in_ok-eval-in-InConstants-clause-gives : goal.eval-returns-in_ok-eval-in-InConstants-clause-gives
 eval-returns-in_ok-eval-in-InConstants-clause-gives t c = ap Judged c.turned_truth-in-InConstants.ensures
     ∙ constants_give (map meaning c.args.row.now) c.in-InConstants.list c.args.e.now c.deref-in-InConstants.result.now
-    c.in-InConstants.negated c.in-InConstants.operand c.in_ok-eval-in-InConstants.field-0 c.cell_among-found.result
-    c.in-InConstants.is c.deref-in-InConstants.ensures c.in_ok-eval-in-InConstants.ensures.gives (c.cell_among-found.ensures _)
+    c.in-InConstants.negated c.in-InConstants.operand c.in_ok-eval-in-InConstants.field-0 c.cell_among.result
+    c.in-InConstants.is c.deref-in-InConstants.ensures c.in_ok-eval-in-InConstants.ensures.gives (c.cell_among.ensures _)
