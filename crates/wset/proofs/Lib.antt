@@ -2,6 +2,7 @@ mod ViewFloors
 pub mod Joining
 pub mod Union
 pub mod Later
+mod Greatest
 mod Merging
 pub mod Singles
 mod Settling

@@ -261,13 +261,13 @@ floor_reached v n h reached = same_view _ _ (λ q. by q (is_above q n) refl (sam
     by q false over false same = rw (over, same) (sym (told_nothing v q h))
 
 -- a content that is not the known one
-pub other_content : (v : View) (n : NameParts) (a b : List ℕ) (r : Bool) → (r ≡ true → get v n ≡ Some (Live b))
-    × (get v n ≡ Some (Live b) → r ≡ true) → r ≡ false → get v n ≡ Some (Live a) → same_bytes a b ≡ false
-other_content v n a b r known other was = by (same_bytes a b) refl
+pub other_content : (v : View) (n : NameParts) (a b : List ℕ) → ¬ (get v n ≡ Some (Live b)) → get v n ≡ Some (Live a)
+    → same_bytes a b ≡ false
+other_content v n a b other was = by (same_bytes a b) refl
   where
     by : (t : Bool) → same_bytes a b ≡ t → same_bytes a b ≡ false
     by false e = e
-    by true e = absurd (true≢false (sym (known.1 (was ∙ ap (λ (bytes : List ℕ). Some (Live bytes)) (same_bytes-true a b e))) ∙ other))
+    by true e = absurd (other (was ∙ ap (λ (bytes : List ℕ). Some (Live bytes)) (same_bytes-true a b e)))
 
 pub known_high : (v : View) (n : NameParts) (o : Option Known) → is_below v n ≡ false → get v n ≡ o → known_in v n ≡ own_status o
 known_high v n o high is = ap (λ b. cond b (Some Retired) (own_status (get v n))) high ∙ ap own_status is

@@ -43,12 +43,12 @@ over_from_at (FloorItem x ∷ items) q m h above =
     (or_cases (same_name m x) _ h)
 
 -- a floor above the name
-record HasFloorItem (items : List Item) (q : NameParts) : Type 0 where
-  floor : NameParts
-  is_told : list_any (is_floor_at floor) items ≡ true
-  above : is_above q floor ≡ true
+pub record HasFloorItem (items : List Item) (q : NameParts) : Type 0 where
+  pub floor : NameParts
+  pub is_told : list_any (is_floor_at floor) items ≡ true
+  pub above : is_above q floor ≡ true
 
-at_from_over : (items : List Item) (q : NameParts) → list_any (is_floor_over q) items ≡ true → HasFloorItem items q
+pub at_from_over : (items : List Item) (q : NameParts) → list_any (is_floor_over q) items ≡ true → HasFloorItem items q
 at_from_over [] q h = absurd (true≢false (sym h))
 at_from_over (SegmentItem x b ∷ items) q h =
     let r = at_from_over items q h in record { floor = r.floor; is_told = r.is_told; above = r.above }
@@ -82,7 +82,7 @@ status_no_floor items q = by (list_any (is_retirement_of q) items) (filter_map (
     by false cs e = agreed_no_floor cs e
 
 -- only a floor is marked as one
-marked_floor : (items : List Item) (m : NameParts) → mark_of items m ≡ Some Floor → list_any (is_floor_at m) items ≡ true
+pub marked_floor : (items : List Item) (m : NameParts) → mark_of items m ≡ Some Floor → list_any (is_floor_at m) items ≡ true
 marked_floor items m = by (list_any (is_floor_at m) items) refl
   where
     by : (b : Bool) → list_any (is_floor_at m) items ≡ b → cond b (Some Floor) (status_of items m) ≡ Some Floor
@@ -323,10 +323,10 @@ first_or_later : (y : Item) (ys : List Item) (i : Item) → IsAmong (y ∷ ys) i
 first_or_later y ys i (zero, h) = inl h.1
 first_or_later y ys i (suc n, h) = inr (n, (omega (arith, h.0), h.1))
 
-later : (y : Item) (ys : List Item) (i : Item) → IsAmong ys i → IsAmong (y ∷ ys) i
+pub later : (y : Item) (ys : List Item) (i : Item) → IsAmong ys i → IsAmong (y ∷ ys) i
 later y ys i (n, h) = (suc n, (omega (arith, h.0), h.1))
 
-first : (y : Item) (ys : List Item) → IsAmong (y ∷ ys) y
+pub first : (y : Item) (ys : List Item) → IsAmong (y ∷ ys) y
 first y ys = (0, (omega arith, refl))
 
 absorbed : (k : List Item) (i : Item) → IsAmong k i → join (view_of_item i) (view_of k) ≡ view_of k

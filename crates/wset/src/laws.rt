@@ -1,5 +1,6 @@
 //! The laws of views. The functions do nothing when run: each is the proof of its contract.
-ghost use Rattle.wset.specs.Laws.{JoinLaws, LaterNames, SameItemsSameView, ViewOfUnion, ViewHasStatus, ViewsAreSettled};
+ghost use Rattle.wset.specs.Laws.{JoinLaws, LaterNames, SameItemsSameView, ViewOfUnion, ViewHasGreatestFloors, ViewHasStatus};
+ghost use Rattle.wset.specs.Laws.{ViewsAreSettled};
 
 /// Joining views is associative, commutative and idempotent.
 pub fn join_laws()
@@ -19,6 +20,11 @@ pub fn view_tells_status()
 /// The view of items has no name below a floor.
 pub fn views_are_settled()
     ensures { ViewsAreSettled }
+{}
+
+/// The floor of an origin in a view of items is the greatest that is among them.
+pub fn views_have_greatest_floors()
+    ensures { ViewHasGreatestFloors }
 {}
 
 /// The same items, in whatever order and however often, have one view.

@@ -6,7 +6,9 @@
 //! - Promises: a set is a view, a finite map from names to what is known of them, a floor under its own name
 //!   and no name below it. Each call tells the whole view after it, at an error the one before. `take`,
 //!   `retire`, `retire_to`, `dispute` and `join` are joins of views, and joining is associative,
-//!   commutative and idempotent (`laws`). No block of a set holds more than 512 entries. `ordered` gives the one
+//!   commutative and idempotent (`laws`). The floor of an origin is the greatest of those that are told. A call that teaches
+//!   nothing leaves the set as it is, its runs included (the clauses `idle` of `take`, `take_beside`, `take_judged`, `retire`,
+//!   `retire_to`, `dispute` and `join`). No block of a set holds more than 512 entries. `ordered` gives the one
 //!   list of the rows by keys, then by name and place, and leaves the view as it is; runs are no part of it. `all_differ`
 //!   says yes just where no two live rows share the keys.
 //! - Asks: of `take_beside`, that both sets have one declaration; of `take_judged`, bytes that were judged by the set's; of

@@ -187,19 +187,16 @@ impl SegmentSet {
         Ok(())
     }
 
-    /// Takes bytes under this name that were read before.
+    /// Takes bytes that were read before under a name that is not live with them.
     fn take_read(&mut self, name: Name, kept: Kept) -> Result<Taken, AllocError>
-        requires { IsReadBy self.old.schema kept.content }
+        requires read { IsReadBy self.old.schema kept.content }
+        requires other { map.get self.old.view name ≢ Some (Live kept.content.bytes) }
         ensures word { IfOk result (λ word. word ≡ taken_word (known_in self.old.view name) kept.content.bytes) }
         ensures ok { let item = view_of_item (SegmentItem name kept.content.bytes) in
             OnOk result (Becomes self.old (join self.old.view item) self.new) }
         ensures idle { (result ≡ Ok Taken.Same) ⊎ (result ≡ Ok Taken.Ignored) → self.new ≡ self.old }
-        ensures same { known_in self.old.view name ≡ Some (Live kept.content.bytes) → result ≡ Ok Taken.Same }
         ensures err { OnErr result (self.new ≡ self.old) }
     {
-        if self.known_segment(&name, kept.bytes()).is_some() {
-            return Ok(Taken::Same);
-        }
         if self.is_low(&name) {
             return Ok(Taken::Ignored);
         }
@@ -708,7 +705,7 @@ impl SegmentSet {
         }
     }
 
-    /// Each name that is not unknown, in the order of names.
+    /// Each floor, and each name above it that is not unknown, in the order of names.
     #[tactic(auto, using(crate::proofs::KeptSets::names_listed))]
     pub fn list(&self) -> Result<Vec<Listed>, AllocError>
         ensures { IfOk result
@@ -718,7 +715,7 @@ impl SegmentSet {
         Ok(all)
     }
 
-    /// How many names are not unknown.
+    /// How many names `names` has: each floor, and each name above it that is not unknown.
     #[tactic(auto, using(crate::proofs::KeptSets::names_counted))]
     pub fn name_count(&self) -> usize
         ensures count { result ≡ length (map.entries self.now.view) }
@@ -727,7 +724,7 @@ impl SegmentSet {
         self.count
     }
 
-    /// Each name that is not unknown and what is known of it, in the order of names, in one pass.
+    /// Each floor, and each name above it that is not unknown, with what is known of it, in the order of names, in one pass.
     #[tactic(auto, using(crate::proofs::KeptSets::names_told))]
     pub fn names(&self) -> Names<'_>
         ensures { result ≡ map.entries self.now.view }

@@ -1,14 +1,8 @@
 use Rattle.std.proofs.Common.{◌∙◌, sym, refl}
-use Rattle.wset.proofs.Singles.{other_content, take_new, take_same, take_other, take_low, take_beaten}
+use Rattle.wset.proofs.Singles.{other_content, take_new, take_other, take_low, take_beaten}
 use Rattle.wentries.specs.Knowledge.{Disputed, Retired, Floor}
 use Rattle.wset.proofs.Sets.{same_view, then_view}
 use Rattle.wset.proofs.set.SegmentSet.take_read.Goals as goal
-
-pub returns-then-is_some-clause-ok : goal.returns-then-is_some-clause-ok
-returns-then-is_some-clause-ok c =
-    let known = rw c.bytes.ensures at c.known_segment.ensures.known in
-    same_view c.args.self.now _ (take_same c.args.self.now.view c.args.name c.args.kept.content.bytes
-    c.args.kept.content.bytes c.known_segment.ensures.settled (known.0 (sym c.is_some.ensures ∙ c.if-is_some.true)) refl)
 
 pub returns-then-is_low-clause-ok : goal.returns-then-is_low-clause-ok
 returns-then-is_low-clause-ok c =
@@ -22,12 +16,11 @@ returns-in-None-clause-ok c =
 
 pub returns-in-Some-Live-clause-ok : goal.returns-in-Some-Live-clause-ok
 returns-in-Some-Live-clause-ok c =
-    let known = rw c.bytes.ensures at c.known_segment.ensures.known in
     let was = sym (rw c.in-Some-Live.field-0-is at c.in-Some-Live.ensures.known) in
     then_view c.args.self.now c.put-in-Some-Live.new.self _ _ c.in_ok-put-in-Some-Live.ensures.ok
     (take_other c.args.self.now.view c.args.name _ c.args.kept.content.bytes c.is_low.ensures.settled
-    (sym c.is_low.ensures.low ∙ c.if-is_low.false) was (other_content c.args.self.now.view c.args.name _
-    c.args.kept.content.bytes _ known (sym c.is_some.ensures ∙ c.if-is_some.false) was))
+    (sym c.is_low.ensures.low ∙ c.if-is_low.false) was
+    (other_content c.args.self.now.view c.args.name _ c.args.kept.content.bytes c.requires.other was))
 
 pub returns-in-Some-Disputed-clause-ok : goal.returns-in-Some-Disputed-clause-ok
 returns-in-Some-Disputed-clause-ok c =
