@@ -54,7 +54,7 @@ fn laid_order(
     requires below { All (λ i. i < cells.now.count) rows.items }
     ensures { IfOk result (λ order. order.items ≡ sorted (on (key_at (rows_in cells.now)) (keys_cmp orders.now)) rows.items) }
 {
-    let order = resorted_numbers(alloc, &cells.cells, orders, &None, cells.count, rows)?;
+    let order = resorted_numbers(alloc, &cells.cells, orders, cells.count, rows)?;
     Ok(order)
 }
 
@@ -71,7 +71,7 @@ fn copied_order(
         ≡ sorted (on (key_at (values_at columns.now.places.items (rows_seen columns.now.rows.now))) (keys_cmp orders.now)) rows.items) }
 {
     let cells = columns.copied(alloc)?;
-    let order = resorted_numbers(alloc, &cells, orders, &None, columns.rows.len(), rows)?;
+    let order = resorted_numbers(alloc, &cells, orders, columns.rows.len(), rows)?;
     Ok(order)
 }
 

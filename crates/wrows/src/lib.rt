@@ -4,8 +4,8 @@
 //!   keys, and the items of rows in that order, cut by OFFSET and LIMIT, also of rows with columns behind their cells. The
 //!   order may be presorted, and then nothing is sorted. A `Condition` is made ready once to be judged on many rows.
 //! - Promises: nothing is skipped, so a number that is out of range on any row refuses; ties are broken by number.
-//!   Where few rows are asked for, these alone are found. Items that are all plain columns are read behind the sort, of
-//!   the rows that are asked for. What lies far apart is read some rows at a time before it is copied.
+//! - How, which no clause says: where few rows are asked for, these alone are found. Items that are all plain columns are read
+//!   behind the sort, of the rows that are asked for. What lies far apart is read some rows at a time before it is copied.
 //! - Asks: an order for each key.
 //! - Leaves expressions to `wplan` and their values to `weval`, sorting to `wsort`, and groups, windows and whole queries to
 //!   `wplanner`.
@@ -41,6 +41,4 @@ pub use place_values::{place_of, places_of};
 pub use presorted::presorted_items;
 pub use rows::{kept_rows, not_too_many};
 pub use values::holds;
-pub use wsort::{
-    CodedOrder, numbers, order_by_codes, resorted_numbers, row_codes, slice_of, sorted_numbers,
-};
+pub use wsort::{CodedOrder, numbers, order_by_codes, resorted_numbers, slice_of, sorted_numbers};

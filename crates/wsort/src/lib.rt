@@ -22,6 +22,6 @@ mod two_codes;
 pub use cells::slice_of;
 pub use coded::{CodedRow, sort_by_codes};
 pub use keyed::{Keyed, LaidKeys};
-pub use order::{numbers, resorted_numbers, row_codes, sorted_numbers};
+pub use order::{numbers, resorted_numbers, sorted_numbers};
 pub use selected::selected_numbers;
 pub use two_codes::{CodedOrder, order_by_codes};
