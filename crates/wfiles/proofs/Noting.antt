@@ -1,7 +1,7 @@
 -- What is noted while a file is read.
 use Rattle.std.proofs.Common.{◌≡◌, ◌≢◌, inr, refl, ap, ◌∙◌, ℕ, zero, suc, arith, ◌≤◌, List}
 use Rattle.std.proofs.Common.{[], ◌∷◌, ◌++◌, length, take, Some, append_assoc, append-nil}
-use Rattle.wfolder.specs.Call.{Call, Locked, Found, Listed, Created, Permitted, Wrote, Synced, Moved, SyncedFolder, Removed, Began}
+use Rattle.wfolder.specs.Call.{Call, Locked, Found, Listed, Created, Permitted, Wrote, Synced, Moved, SyncedFolder, Removed, Began, Taken}
 use Rattle.wfiles.specs.Noting.{read_on}
 use Rattle.wfiles.specs.Reading.{MayBegin, ReadsMore, read_more, read_to_end}
 
@@ -13,6 +13,7 @@ reads_none (Locked done ∷ cs) = refl
 reads_none (Found name held ∷ cs) = refl
 reads_none (Listed folder names ∷ cs) = refl
 reads_none (Created name closed done ∷ cs) = refl
+reads_none (Taken name closed ∷ cs) = refl
 reads_none (Permitted name rights done ∷ cs) = refl
 reads_none (Wrote name bytes done ∷ cs) = refl
 reads_none (Synced name done ∷ cs) = refl
@@ -29,6 +30,7 @@ goes_on bytes b block (Locked done ∷ cs) = refl
 goes_on bytes b block (Found name held ∷ cs) = refl
 goes_on bytes b block (Listed folder names ∷ cs) = refl
 goes_on bytes b block (Created name closed done ∷ cs) = refl
+goes_on bytes b block (Taken name closed ∷ cs) = refl
 goes_on bytes b block (Permitted name rights done ∷ cs) = refl
 goes_on bytes b block (Wrote name written done ∷ cs) = refl
 goes_on bytes b block (Synced name done ∷ cs) = refl
@@ -44,6 +46,7 @@ stops (Locked done ∷ cs) = refl
 stops (Found name held ∷ cs) = refl
 stops (Listed folder names ∷ cs) = refl
 stops (Created name closed done ∷ cs) = refl
+stops (Taken name closed ∷ cs) = refl
 stops (Permitted name rights done ∷ cs) = refl
 stops (Wrote name written done ∷ cs) = refl
 stops (Synced name done ∷ cs) = refl

@@ -1,6 +1,6 @@
 -- What is noted of calls.
 use Rattle.std.specs.Prelude.{ℕ, Bool, List, [], ◌∷◌, ◌++◌, ◌==◌, true, false, cond, if◌then◌else◌, None, Some, slice_index}
-use Rattle.wfolder.specs.Call.{Call, Rights, Locked, Found, Listed, Created, Permitted, Wrote, Synced, Moved, SyncedFolder, Removed, Began}
+use Rattle.wfolder.specs.Call.{Call, Rights, Locked, Found, Listed, Created, Permitted, Wrote, Synced, Moved, SyncedFolder, Removed, Began, Taken}
 
 -- a call as it is noted: its number, and 1 where it was done
 abbrev pub call_of : ℕ → Bool → List ℕ → List ℕ → Call
@@ -15,6 +15,8 @@ call_of n done name bytes =
     else if n == 7 then SyncedFolder done
     else if n == 8 then Removed name done
     else if n == 10 then Listed name (cond done (Some []) None)
+    else if n == 11 then Taken name false
+    else if n == 12 then Taken name true
     else Began name bytes
 
 -- a read of the file that the newest call began to read gave these bytes, none at its end

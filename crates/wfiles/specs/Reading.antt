@@ -36,3 +36,18 @@ MayBegin name old new = (new ≡ old) ⊎ ((bytes : List ℕ) × (new ≡ Began 
 abbrev pub GivesBytes : Option (List ℕ) → Option (List ℕ) → List ℕ → Option ℕ → Type 0
 GivesBytes old new block None = Keeps old new
 GivesBytes old new block (Some n) = Consumes old new (take n block) × (n ≡ 0 → 0 < length block → IsAtEnd new)
+
+-- more than so many, where a number is given
+abbrev pub IsOver : Option ℕ → ℕ → Type 0
+IsOver None n = ⊥
+IsOver (Some most) n = most < n
+
+-- a reading was read to its end, with these bytes; or more than so many bytes were read of it
+abbrev pub TakesBytes : Option ℕ → Type 0 → List ℕ → List Call → List Call → Type 0
+TakesBytes most Ended bytes old new = (Ended × (new ≡ read_to_end (read_more bytes old)))
+    ⊎ (IsOver most (length bytes) × (new ≡ read_more bytes old))
+
+-- a file is read whole; or of one that has more than so many bytes only the first, more than so many
+pub data ReadsAtMost (path : List ℕ) (most : ℕ) (bytes : List ℕ) (old new : List Call) : Type 0 where
+  Whole : new ≡ Found path (Some bytes) ∷ old → ReadsAtMost path most bytes old new
+  Front : most < length bytes → new ≡ Began path bytes ∷ old → ReadsAtMost path most bytes old new

@@ -1,9 +1,10 @@
-//! Files, read whole.
-ghost use Rattle.std.specs.Prelude.{◌≡◌, ◌≢◌, ◌∷◌, Some, IfOk, IfErr, OnOk, OnErr, option_map};
+//! Files, read whole, or as far as they are not too long.
+ghost use Rattle.std.specs.Prelude.{◌≡◌, ◌≢◌, ◌↔◌, ◌+◌, ◌≤◌, ◌∷◌, None, Some, IfOk, IfErr, IfSome, IsTrue, OnOk, OnErr};
+ghost use Rattle.std.specs.Prelude.{length, option_map};
 ghost use Rattle.std.specs.Io.KnownBytes.{Consumes, IsAtEnd};
 ghost use Rattle.wfolder.specs.Call.{Found};
 ghost use Rattle.wfolder.specs.Calls.{HasCause, NothingFailed};
-ghost use Rattle.wfiles.specs.Reading.{MayBegin, ReadsMore, read_more, read_to_end};
+ghost use Rattle.wfiles.specs.Reading.{IsOver, MayBegin, ReadsAtMost, ReadsMore, TakesBytes};
 
 use crate::reading::Reading;
 use crate::record::Record;
@@ -18,16 +19,28 @@ use wfolder::Fault;
 /// The bytes that are read at once.
 const BLOCK: usize = 65_536;
 
-// All that a reading has left.
+// Whether it is more than so many, where a number is given.
+fn is_over(most: Option<usize>, count: usize) -> bool
+    ensures { IsTrue result ↔ IsOver most count }
+{
+    match most {
+        Some(most) => count > most,
+        None => false,
+    }
+}
+
+// All that a reading has left; or the first of it, once that is more than so many bytes, where a number is given.
 fn read_rest<R, T: Read>(
     alloc: Global,
     system: &mut System<'_, R>,
     reading: &mut Reading<T>,
+    most: Option<usize>,
 ) -> Result<Vec<u8>, Fault>
     requires { NothingFailed system.old }
-    ensures bytes { IfOk result (λ bytes. Consumes (T.remaining reading.old.reader) (T.remaining reading.new.reader)
-        bytes.items × IsAtEnd (T.remaining reading.new.reader)) }
-    ensures noted { IfOk result (λ bytes. reading.new.calls ≡ read_to_end (read_more bytes.items reading.old.calls)) }
+    ensures bytes { IfOk result (λ bytes. Consumes (T.remaining reading.old.reader) (T.remaining reading.new.reader) bytes.items) }
+    ensures noted { IfOk result (λ bytes. TakesBytes most (IsAtEnd (T.remaining reading.new.reader)) bytes.items
+        reading.old.calls reading.new.calls) }
+    ensures bound { IfOk result (λ bytes. IfSome most (λ n. length bytes.items ≤ n + 65536)) }
     ensures begun { OnErr result (ReadsMore reading.old.calls reading.new.calls) }
     ensures kind { IfErr result (λ fault. fault ≢ Fault.Write) }
     ensures sound { OnOk result (NothingFailed system.new) }
@@ -47,24 +60,29 @@ fn read_rest<R, T: Read>(
         if let Err(fault) = system.grown(bytes.extend_from_slice(&block[..count])) {
             return Err(fault);
         }
+        if is_over(most, bytes.len()) {
+            return Ok(bytes);
+        }
     }
 }
 
-// All that a reading of a file has left. The record is given back.
+// What `read_rest` reads of a file. The record is given back.
 fn read_file<R>(
     alloc: Global,
     system: &mut System<'_, R>,
     calls: &mut Record,
     reading: Reading<File>,
+    most: Option<usize>,
 ) -> Result<Vec<u8>, Fault>
     requires { NothingFailed system.old }
-    ensures found { IfOk result (λ bytes. calls.new.calls ≡ read_to_end (read_more bytes.items reading.calls)) }
+    ensures noted { IfOk result (λ bytes. TakesBytes most Unit bytes.items reading.calls calls.new.calls) }
+    ensures bound { IfOk result (λ bytes. IfSome most (λ n. length bytes.items ≤ n + 65536)) }
     ensures begun { OnErr result (ReadsMore reading.calls calls.new.calls) }
     ensures sound { OnOk result (NothingFailed system.new) }
     ensures cause { IfErr result (λ fault. HasCause fault system.new) }
 {
     let mut reading = reading;
-    let bytes = read_rest(alloc, system, &mut reading);
+    let bytes = read_rest(alloc, system, &mut reading, most);
     *calls = reading.ended();
     bytes
 }
@@ -87,7 +105,7 @@ pub fn read_if_there<R: Files<File = File> + AllocGlobal>(
         Ok(None) => return Ok(None),
         Err(fault) => return Err(fault),
     };
-    match read_file(alloc, system, calls, reading) {
+    match read_file(alloc, system, calls, reading, None) {
         Ok(bytes) => Ok(Some(bytes)),
         Err(fault) => Err(fault),
     }
@@ -107,7 +125,29 @@ pub fn read_whole<R: Files<File = File> + AllocGlobal>(
     ensures cause { IfErr result (λ fault. HasCause fault system.new) }
 {
     match Reading::open(system, calls, path) {
-        Ok(reading) => read_file(alloc, system, calls, reading),
+        Ok(reading) => read_file(alloc, system, calls, reading, None),
+        Err(fault) => Err(fault),
+    }
+}
+
+/// The bytes of a file that has to be there, all of them where they are at most so many; else the first of them, somewhat more
+/// than so many, and the file is not read further.
+pub fn read_at_most<R: Files<File = File> + AllocGlobal>(
+    alloc: Global,
+    system: &mut System<'_, R>,
+    calls: &mut Record,
+    path: &str,
+    most: usize,
+) -> Result<Vec<u8>, Fault>
+    requires { NothingFailed system.old }
+    ensures found { IfOk result (λ bytes. ReadsAtMost path.now most bytes.items calls.old.calls calls.new.calls) }
+    ensures bound { IfOk result (λ bytes. length bytes.items ≤ most + 65536) }
+    ensures begun { OnErr result (MayBegin path.now calls.old.calls calls.new.calls) }
+    ensures sound { OnOk result (NothingFailed system.new) }
+    ensures cause { IfErr result (λ fault. HasCause fault system.new) }
+{
+    match Reading::open(system, calls, path) {
+        Ok(reading) => read_file(alloc, system, calls, reading, Some(most)),
         Err(fault) => Err(fault),
     }
 }
@@ -138,6 +178,6 @@ pub(crate) fn read_names<R: Files<File = File> + AllocGlobal>(
 {
     let folder = system.names(path)?;
     let mut reading = Reading::begun(folder, Record::new(), path);
-    let names = read_rest(alloc, system, &mut reading)?;
+    let names = read_rest(alloc, system, &mut reading, None)?;
     system.grown(new_names(alloc, names.as_slice()))
 }

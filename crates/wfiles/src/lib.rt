@@ -1,7 +1,7 @@
-//! Files, read whole and replaced whole, over calls that are counted and recorded.
+//! Files, read and replaced whole, over calls that are counted and recorded.
 //!
 //! - Gives a system that counts the reads of files, the calls that failed and the growths that were refused; the bytes of
-//!   a file, whole or in blocks; and a place whose file is replaced, by one that is written beside it.
+//!   a file, whole, in blocks, or as far as they are not too many; and a place whose file is replaced, by one that is written beside it.
 //! - Promises: a fault comes only where a call failed, a growth was refused or the reads are used up, as the system counts them, and
 //!   nothing else has failed then. A reader is read to its end, the record has the path and the bytes of each file that was read,
 //!   and what is written is written whole. A file is replaced as `wfolder` replaces it, on calls that the record has, with the
@@ -21,7 +21,7 @@ mod record;
 mod simulated;
 mod system;
 
-pub use files::{read_if_there, read_whole};
+pub use files::{read_at_most, read_if_there, read_whole};
 pub use place::Place;
 pub use reading::Reading;
 pub use record::Record;

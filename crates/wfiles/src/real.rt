@@ -86,7 +86,7 @@ impl<R: Files<File = File> + AllocGlobal> Folder for RealFolder<'_, '_, R> {
                 Ok(true)
             }
             Ok(None) => {
-                self.trace.note_create(false, path.as_bytes(), is_closed);
+                self.trace.note_taken(path.as_bytes(), is_closed);
                 Ok(false)
             }
             Err(fault) => {

@@ -1,7 +1,7 @@
 //! The calls that were made on files and folders, in a list that only clauses read.
 ghost use Rattle.std.specs.Prelude.{◌≡◌, List, [], ◌∷◌, Some, map, string_bytes};
 ghost use Rattle.std.specs.Borrow.{ftrue};
-ghost use Rattle.wfolder.specs.Call.{Call, Created, Listed, Permitted, rights_of};
+ghost use Rattle.wfolder.specs.Call.{Call, Created, Listed, Permitted, Taken, rights_of};
 ghost use Rattle.wfiles.specs.Noting.{call_of, noted, read_on};
 
 use std::marker::{Model, PhantomData};
@@ -29,6 +29,27 @@ pub(crate) const REMOVED: u64 = 8;
 pub(crate) const BEGAN: u64 = 9;
 
 pub(crate) const LISTED: u64 = 10;
+
+const TAKEN: u64 = 11;
+
+const TAKEN_CLOSED: u64 = 12;
+
+// The first number of what is no call by its number.
+const UNNUMBERED: u64 = 0;
+
+// The second number: whether the call was done.
+const UNDONE: u64 = 0;
+
+const DONE: u64 = 1;
+
+// The third number: a call by its number, what a read gave, a name that was listed, or an access.
+const CALL: u64 = 0;
+
+const BYTES: u64 = 1;
+
+const NAME: u64 = 2;
+
+const ACCESS: u64 = 3;
 
 /// The calls that read files, and those on the folder of a store, the newest first. It takes no room: only clauses read it, and only
 /// this crate adds to it.
@@ -61,18 +82,26 @@ impl Record {
         ensures { self.new.calls ≡ call_of number is_done path.now bytes.now ∷ self.old.calls }
     {
         if is_done {
-            self.note(&[number, 1, 0], path, bytes);
+            self.note(&[number, DONE, CALL], path, bytes);
         } else {
-            self.note(&[number, 0, 0], path, bytes);
+            self.note(&[number, UNDONE, CALL], path, bytes);
         }
     }
 
-    /// Notes that a new file is made, for its owner alone or not, or is not made.
+    /// Notes that a new file is made, for its owner alone or not, or could not be made.
     pub(crate) fn note_create(&mut self, is_made: bool, path: &[u8], is_closed: bool)
         ensures { self.new.calls ≡ Created path.now is_closed is_made ∷ self.old.calls }
     {
         let number = if is_closed { CREATED_CLOSED } else { CREATED };
         self.note_call(number, is_made, path, &[]);
+    }
+
+    /// Notes that no new file is made, since its name is taken.
+    pub(crate) fn note_taken(&mut self, path: &[u8], is_closed: bool)
+        ensures { self.new.calls ≡ Taken path.now is_closed ∷ self.old.calls }
+    {
+        let number = if is_closed { TAKEN_CLOSED } else { TAKEN };
+        self.note_call(number, true, path, &[]);
     }
 
     /// Notes that the file of a path is given an access, or is not.
@@ -83,9 +112,9 @@ impl Record {
         let group = u64::from(access.group);
         let mode = u64::from(access.permissions.mode());
         if is_done {
-            self.note(&[0, 1, 3, owner, group, mode], path, &[]);
+            self.note(&[UNNUMBERED, DONE, ACCESS, owner, group, mode], path, &[]);
         } else {
-            self.note(&[0, 0, 3, owner, group, mode], path, &[]);
+            self.note(&[UNNUMBERED, UNDONE, ACCESS, owner, group, mode], path, &[]);
         }
     }
 
@@ -95,7 +124,7 @@ impl Record {
     {
         self.note_call(LISTED, true, folder, &[]);
         'names: for name in names.iter() {
-            self.note(&[0, 0, 2], name.as_bytes(), &[]);
+            self.note(&[UNNUMBERED, UNDONE, NAME], name.as_bytes(), &[]);
         }
     }
 
@@ -103,6 +132,6 @@ impl Record {
     pub(crate) fn note_read(&mut self, block: &[u8])
         ensures { self.new.calls ≡ read_on block.now self.old.calls }
     {
-        self.note(&[0, 0, 1], &[], block);
+        self.note(&[UNNUMBERED, UNDONE, BYTES], &[], block);
     }
 }

@@ -117,8 +117,12 @@ impl Folder for Simulated<'_> {
             return Err(self.system.misplaced());
         }
         let made = self.disk.create(path);
-        self.trace
-            .note_create(made == Ok(true), path.as_bytes(), is_closed);
+        match made {
+            Ok(false) => self.trace.note_taken(path.as_bytes(), is_closed),
+            _ => self
+                .trace
+                .note_create(made.is_ok(), path.as_bytes(), is_closed),
+        }
         self.system.grown(made)
     }
 

@@ -12,7 +12,7 @@ use Rattle.wfolder.specs.declared.replacing.NotReplaced.{NotReplaced}
 use Rattle.wfolder.specs.declared.replacing.NotReplaced.TheVariants.{Kept, Unsynced}
 use Rattle.wfolder.specs.Order.{After, Refused, Spoilt, Brings, LeavesBeside, LeavesIdle, Idle, Beside, Placed, Durable, new_file}
 use Rattle.wfolder.specs.Order.{begins, removes, keeps, folder_synced, folder_unsynced}
-use Rattle.wfolder.proofs.Safety.{at_each, crash_durable, holds_at, holds_file, is_kept, keeps_access, one_own, only_own}
+use Rattle.wfolder.proofs.Safety.{at_each, clears_left, crash_durable, holds_at, holds_file, is_kept, keeps_access, one_own, only_own}
 use Rattle.wfolder.proofs.Steps.{after, behind_removal, by_write}
 
 -- the three ends
@@ -24,6 +24,7 @@ ends_kept site bytes fault old new locked refused =
       since = a.since;
       is = a.is;
       own = only_own site.path a.since Idle a.reaches;
+      cleared = clears_left site.path a.since Idle a.reaches;
       access = keeps_access site.path a.since Idle a.reaches;
       clears = λ name own. absurd (one_own site.path a.since Idle name a.reaches own);
       refusal = refused.refusal;
@@ -33,12 +34,13 @@ ends_kept site bytes fault old new locked refused =
 
 pub ends_beside : (site : Site) (bytes name : List ℕ) (ready : Bool) (known : Option (List ℕ)) (durable : Bool) (fault : Fault)
     (old new : List Call) → IsLocked old → (a : After site old new (Beside name ready known durable))
-    → (before : List Call) × (a.since ≡ Removed name false ∷ before) → HasRefusal fault a.since
+    → (before : List Call) × (a.since ≡ Removed name false ∷ before) → HasRefusal site.folder fault a.since
     → Replaces site bytes (Err (Kept fault)) old new
 ends_beside site bytes name ready known durable fault old new locked a last refusal = record {
   since = a.since;
   is = a.is;
   own = only_own site.path a.since (Beside name ready known durable) a.reaches;
+  cleared = clears_left site.path a.since (Beside name ready known durable) a.reaches;
   access = keeps_access site.path a.since (Beside name ready known durable) a.reaches;
   clears = λ at own. (
     last.0,
@@ -57,6 +59,7 @@ ends_durable site bytes old new locked a = record {
   since = a.since;
   is = a.is;
   own = only_own site.path a.since (Durable bytes) a.reaches;
+  cleared = clears_left site.path a.since (Durable bytes) a.reaches;
   access = keeps_access site.path a.since (Durable bytes) a.reaches;
   clears = λ name own. absurd (one_own site.path a.since (Durable bytes) name a.reaches own);
   refusal = tt;
@@ -67,11 +70,12 @@ ends_durable site bytes old new locked a = record {
 }
 
 pub ends_unsynced : (site : Site) (bytes : List ℕ) (fault : Fault) (old new : List Call) → IsLocked old
-    → (a : After site old new (Placed bytes)) → HasRefusal fault a.since → Replaces site bytes (Err (Unsynced fault)) old new
+    → (a : After site old new (Placed bytes)) → HasRefusal site.folder fault a.since → Replaces site bytes (Err (Unsynced fault)) old new
 ends_unsynced site bytes fault old new locked a refusal = record {
   since = a.since;
   is = a.is;
   own = only_own site.path a.since (Placed bytes) a.reaches;
+  cleared = clears_left site.path a.since (Placed bytes) a.reaches;
   access = keeps_access site.path a.since (Placed bytes) a.reaches;
   clears = λ name own. absurd (one_own site.path a.since (Placed bytes) name a.reaches own);
   refusal = refusal;
@@ -99,14 +103,14 @@ given_up site bytes name fault true old mid new locked s is = ends_kept site byt
     is = is ∙ ap (λ cs. Removed name true ∷ cs) s.refused.after.is;
     reaches = removes s.refused.after.reaches;
   };
-  refusal = behind_removal fault name true s.refused.after.since s.refused.refusal;
+  refusal = behind_removal site.folder fault name true s.refused.after.since s.refused.refusal;
 })
 given_up site bytes name fault false old mid new locked s is = ends_beside site bytes name s.ready s.bytes s.durable fault old new
     locked (record {
       since = Removed name false ∷ s.refused.after.since;
       is = is ∙ ap (λ cs. Removed name false ∷ cs) s.refused.after.is;
       reaches = keeps s.refused.after.reaches;
-    }) (s.refused.after.since, refl) (behind_removal fault name false s.refused.after.since s.refused.refusal)
+    }) (s.refused.after.since, refl) (behind_removal site.folder fault name false s.refused.after.since s.refused.refusal)
 
 -- behind the move the folder is brought to the disk, or not
 pub ended : (site : Site) (bytes : List ℕ) (r : Result (Unit {0}) NotReplaced) (old mid new : List Call) → IsLocked old
@@ -120,7 +124,7 @@ ended site bytes (Err (Unsynced fault)) old mid new locked unsynced kind a is =
       since = SyncedFolder false ∷ a.since;
       is = is ∙ ap (λ cs. SyncedFolder false ∷ cs) a.is;
       reaches = folder_unsynced a.reaches;
-    }) (by_write fault (SyncedFolder false ∷ a.since) kind tt)
+    }) (by_write site.folder fault (SyncedFolder false ∷ a.since) kind tt)
 
 -- a run that makes its new file, and gives up
 pub gave_up : (site : Site) (bytes name at gone_at : List ℕ) (fault : Fault) (gone : Bool) (old begun mid new : List Call)

@@ -2,12 +2,14 @@
 use Rattle.std.specs.Prelude.{⊤, is_none}
 use Rattle.std.proofs.Common.{◌≡◌, ◌≢◌, ◌⊎◌, inl, inr, ⊎_elim, ℕ, Bool, true, false, List, [], ◌∷◌, ◌++◌, Option}
 use Rattle.std.proofs.Common.{None, Some, refl, sym, ◌∙◌, ap, subst, rules, option_map}
-use Rattle.wfolder.specs.Call.{Call, Rights, Locked, Found, Listed, Created, Permitted, Wrote, Synced, Moved, SyncedFolder, Removed, Began}
+use Rattle.wfolder.specs.Call.{Call, Rights, Locked, Found, Listed, Created, Taken, Permitted, Wrote}
+use Rattle.wfolder.specs.Call.{Synced, Moved, SyncedFolder, Removed, Began}
 use Rattle.wfolder.specs.Model.{Disk, IsAmong, holds, IsLeft, Leaves, MayHold, LeadsTo, IsSameFile, IsSameName, IsSame}
 use Rattle.wfolder.specs.Model.{Creates, Writes, Syncs, Renames, SyncsFolder, Removes, IsLocked, IsOwn, Others, Runs}
 use Rattle.wfolder.specs.Replacing.{AtEachMoment, LeavesOldOrNew, ChangesOnlyOwn, IsPermitted, KeepsAccess, IsUnchanged}
+use Rattle.wfolder.specs.Clearing.{ClearsLeft}
 use Rattle.wfolder.specs.Order.{Stage, Idle, Beside, Placed, Durable, Reaches}
-use Rattle.wfolder.specs.Order.{begins, locks, reads, lists, clears, misses, makes, permits, forbids, writes, spoils, syncs}
+use Rattle.wfolder.specs.Order.{begins, locks, reads, lists, clears, misses, fails, makes, permits, forbids, writes, spoils, syncs}
 use Rattle.wfolder.specs.Order.{places, stays, removes, keeps, folder_synced, folder_unsynced}
 
 pub same_refl : (name : List ℕ) (d : Disk) → IsSame name d d
@@ -118,6 +120,7 @@ locked_on (Found name bytes ∷ cs) base held = locked_on cs base held
 locked_on (Began name bytes ∷ cs) base held = locked_on cs base held
 locked_on (Listed folder names ∷ cs) base held = locked_on cs base held
 locked_on (Created name closed done ∷ cs) base held = locked_on cs base held
+locked_on (Taken name closed ∷ cs) base held = locked_on cs base held
 locked_on (Permitted name rights done ∷ cs) base held = locked_on cs base held
 locked_on (Wrote name bytes done ∷ cs) base held = locked_on cs base held
 locked_on (Synced name done ∷ cs) base held = locked_on cs base held
@@ -245,7 +248,8 @@ durable store bytes d mid e s p = record {
   left = s.left store ∙ ap (λ f. f ∷ []) p.leads;
 }
 
-pub owns : (store : List ℕ) {access : Option Rights} (cs : List Call) (stage : Stage) → Reaches store access cs stage → Owns store cs stage
+pub owns : (store : List ℕ) {folder : List ℕ} {access : Option Rights} (cs : List Call) (stage : Stage)
+    → Reaches store folder access cs stage → Owns store cs stage
 owns store cs stage begins = tt
 owns store cs stage (locks {stage = Idle} r) = tt
 owns store cs stage (locks {stage = Beside name ready bytes durable} r) = owns store _ _ r
@@ -257,8 +261,9 @@ owns store cs stage (reads {stage = Placed bytes} r) = tt
 owns store cs stage (reads {stage = Durable bytes} r) = tt
 owns store cs stage (lists r) = tt
 owns store cs stage (clears other ours r) = tt
-owns store cs stage (misses other ours closed r) = tt
-owns store cs stage (makes other ours closed none r) = (other, inl refl)
+owns store cs stage (misses other ours closed clear r) = tt
+owns store cs stage (fails other ours closed clear r) = tt
+owns store cs stage (makes other ours closed none clear r) = (other, inl refl)
 owns store cs stage (permits is r) = owns store _ _ r
 owns store cs stage (forbids is r) = owns store _ _ r
 owns store cs stage (writes r) = owns store _ _ r
@@ -278,8 +283,9 @@ none_known : (a : List ℕ) → None ≡ Some a → ⊥
 none_known a is = search rules
 
 -- the state behind the calls, at whichever stage they bring the run to
-pub holds_at : (store : List ℕ) {access : Option Rights} (base cs : List Call) (stage : Stage) (d e : Disk) → IsLocked base
-    → Reaches store access cs stage
+pub holds_at : (store : List ℕ) {folder : List ℕ} {access : Option Rights} (base cs : List Call) (stage : Stage) (d e : Disk)
+    → IsLocked base
+    → Reaches store folder access cs stage
     → Runs store base d cs e → Holds store stage d e
 holds_at store base cs stage d e held begins runs = runs.store_stays held
 holds_at store base cs stage d e held (locks r) runs =
@@ -297,11 +303,14 @@ holds_at store base cs stage d e held (clears {name = name} {done = true} other 
 holds_at store base cs stage d e held (clears {name = name} {done = false} other ours r) runs =
     others_leave store cs stage d runs.1 e tt (stay store base cs runs.1 e held runs.4)
     (same_stage store stage d runs.0 runs.1 runs.3 (holds_at store base _ Idle d runs.0 held r runs.2))
-holds_at store base cs stage d e held (misses other ours closed r) runs =
+holds_at store base cs stage d e held (misses other ours closed clear r) runs =
     others_leave store cs stage d runs.1 e tt (stay store base cs runs.1 e held runs.4)
     (same_stage store stage d runs.0 runs.1 runs.3 (holds_at store base _ Idle d runs.0 held r runs.2))
-holds_at store base cs stage d e held (makes {name = name} other ours closed none r) runs =
-    others_leave store cs stage d runs.1 e (owns store cs stage (makes other ours closed none r))
+holds_at store base cs stage d e held (fails other ours closed clear r) runs =
+    others_leave store cs stage d runs.1 e tt (stay store base cs runs.1 e held runs.4)
+    (same_stage store stage d runs.0 runs.1 runs.3 (holds_at store base _ Idle d runs.0 held r runs.2))
+holds_at store base cs stage d e held (makes {name = name} other ours closed none clear r) runs =
+    others_leave store cs stage d runs.1 e (owns store cs stage (makes other ours closed none clear r))
     (stay store base cs runs.1 e held runs.4) (made store name d runs.0 runs.1 other runs.3
     (holds_at store base _ Idle d runs.0 held r runs.2))
 holds_at store base cs stage d e held (permits {name = name} {ready = ready} {bytes = bytes} {durable = before} is r) runs =
@@ -400,16 +409,18 @@ crash store bytes (Placed placed) d e tells h held may = ⊎_elim (λ old. inl o
 crash store bytes (Durable durable) d e tells h held may = inr (crash_durable store durable e h held may ∙ ap Some tells)
 
 -- a crash at the last moment
-pub at_last : (store bytes : List ℕ) {access : Option Rights} (base cs : List Call) (stage : Stage) → IsLocked base → Tells bytes stage
-    → Reaches store access cs stage → LeavesOldOrNew store bytes base cs
+pub at_last : (store bytes : List ℕ) {folder : List ℕ} {access : Option Rights} (base cs : List Call) (stage : Stage)
+    → IsLocked base → Tells bytes stage
+    → Reaches store folder access cs stage → LeavesOldOrNew store bytes base cs
 at_last store bytes base cs stage locked tells r d e runs held may =
     crash store bytes stage d e tells (holds_at store base cs stage d e locked r runs) held may
 
 -- a crash at each moment
-pub at_each : (store bytes : List ℕ) {access : Option Rights} (base cs : List Call) (stage : Stage) → IsLocked base → Tells bytes stage
-    → Reaches store access cs stage → AtEachMoment (LeavesOldOrNew store bytes base) cs
-at_each store bytes {access = access} base cs stage locked tells begins =
-    at_last store bytes {access = access} base [] Idle locked tt begins
+pub at_each : (store bytes : List ℕ) {folder : List ℕ} {access : Option Rights} (base cs : List Call) (stage : Stage)
+    → IsLocked base → Tells bytes stage
+    → Reaches store folder access cs stage → AtEachMoment (LeavesOldOrNew store bytes base) cs
+at_each store bytes {folder = folder} {access = access} base cs stage locked tells begins =
+    at_last store bytes {folder = folder} {access = access} base [] Idle locked tt begins
 at_each store bytes base cs stage locked tells (locks r) =
     (at_last store bytes base cs stage locked tells (locks r), at_each store bytes base _ _ locked tells r)
 at_each store bytes base cs stage locked tells (reads r) =
@@ -418,10 +429,12 @@ at_each store bytes base cs stage locked tells (lists r) =
     (at_last store bytes base cs stage locked tells (lists r), at_each store bytes base _ _ locked tt r)
 at_each store bytes base cs stage locked tells (clears other ours r) =
     (at_last store bytes base cs stage locked tells (clears other ours r), at_each store bytes base _ _ locked tt r)
-at_each store bytes base cs stage locked tells (misses other ours closed r) =
-    (at_last store bytes base cs stage locked tells (misses other ours closed r), at_each store bytes base _ _ locked tt r)
-at_each store bytes base cs stage locked tells (makes other ours closed none r) =
-    (at_last store bytes base cs stage locked tells (makes other ours closed none r), at_each store bytes base _ _ locked tt r)
+at_each store bytes base cs stage locked tells (misses other ours closed clear r) =
+    (at_last store bytes base cs stage locked tells (misses other ours closed clear r), at_each store bytes base _ _ locked tt r)
+at_each store bytes base cs stage locked tells (fails other ours closed clear r) =
+    (at_last store bytes base cs stage locked tells (fails other ours closed clear r), at_each store bytes base _ _ locked tt r)
+at_each store bytes base cs stage locked tells (makes other ours closed none clear r) =
+    (at_last store bytes base cs stage locked tells (makes other ours closed none clear r), at_each store bytes base _ _ locked tt r)
 at_each store bytes base cs stage locked tells (permits is r) =
     (at_last store bytes base cs stage locked tells (permits is r), at_each store bytes base _ _ locked tt r)
 at_each store bytes base cs stage locked tells (forbids is r) =
@@ -445,16 +458,41 @@ at_each store bytes base cs stage locked tells (folder_synced r) =
 at_each store bytes base cs stage locked tells (folder_unsynced r) =
     (at_last store bytes base cs stage locked tells (folder_unsynced r), at_each store bytes base _ _ locked tells r)
 
+-- what killed runs have left is removed before a new file is made
+pub clears_left : (store : List ℕ) {folder : List ℕ} {access : Option Rights} (cs : List Call) (stage : Stage)
+    → Reaches store folder access cs stage → ClearsLeft folder cs
+clears_left store cs stage begins = tt
+clears_left store cs stage (locks r) = clears_left store _ _ r
+clears_left store cs stage (reads r) = clears_left store _ _ r
+clears_left store cs stage (lists r) = clears_left store _ _ r
+clears_left store cs stage (clears other ours r) = clears_left store _ _ r
+clears_left store cs stage (misses other ours closed clear r) = (clear, clears_left store _ _ r)
+clears_left store cs stage (fails other ours closed clear r) = (clear, clears_left store _ _ r)
+clears_left store cs stage (makes other ours closed none clear r) = (clear, clears_left store _ _ r)
+clears_left store cs stage (permits is r) = clears_left store _ _ r
+clears_left store cs stage (forbids is r) = clears_left store _ _ r
+clears_left store cs stage (writes r) = clears_left store _ _ r
+clears_left store cs stage (spoils r) = clears_left store _ _ r
+clears_left store cs stage (syncs r) = clears_left store _ _ r
+clears_left store cs stage (places r) = clears_left store _ _ r
+clears_left store cs stage (stays r) = clears_left store _ _ r
+clears_left store cs stage (removes r) = clears_left store _ _ r
+clears_left store cs stage (keeps r) = clears_left store _ _ r
+clears_left store cs stage (folder_synced r) = clears_left store _ _ r
+clears_left store cs stage (folder_unsynced r) = clears_left store _ _ r
+
 -- only what is this run's own is changed
-pub only_own : (store : List ℕ) {access : Option Rights} (cs : List Call) (stage : Stage) → Reaches store access cs stage
+pub only_own : (store : List ℕ) {folder : List ℕ} {access : Option Rights} (cs : List Call) (stage : Stage)
+    → Reaches store folder access cs stage
     → ChangesOnlyOwn store cs
 only_own store cs stage begins = tt
 only_own store cs stage (locks r) = only_own store _ _ r
 only_own store cs stage (reads r) = only_own store _ _ r
 only_own store cs stage (lists r) = only_own store _ _ r
 only_own store cs stage (clears other ours r) = (inr (other, ours), only_own store _ _ r)
-only_own store cs stage (misses other ours closed r) = ((other, ours), only_own store _ _ r)
-only_own store cs stage (makes other ours closed none r) = ((other, ours), only_own store _ _ r)
+only_own store cs stage (misses other ours closed clear r) = ((other, ours), only_own store _ _ r)
+only_own store cs stage (fails other ours closed clear r) = ((other, ours), only_own store _ _ r)
+only_own store cs stage (makes other ours closed none clear r) = ((other, ours), only_own store _ _ r)
 only_own store cs stage (permits is r) = ((owns store _ _ r).1, only_own store _ _ r)
 only_own store cs stage (forbids is r) = ((owns store _ _ r).1, only_own store _ _ r)
 only_own store cs stage (writes r) = ((owns store _ _ r).1, only_own store _ _ r)
@@ -481,7 +519,8 @@ Readies access cs (Durable bytes) = ⊤
 none_is : (access : Option Rights) (ready : Bool) → ready ≡ is_none access → ready ≡ true → access ≡ None
 none_is access ready is has = search rules
 
-readies : (store : List ℕ) {access : Option Rights} (cs : List Call) (stage : Stage) → Reaches store access cs stage
+readies : (store : List ℕ) {folder : List ℕ} {access : Option Rights} (cs : List Call) (stage : Stage)
+    → Reaches store folder access cs stage
     → Readies access cs stage
 readies store cs stage begins = tt
 readies store cs stage (locks {stage = Idle} r) = tt
@@ -494,8 +533,9 @@ readies store cs stage (reads {stage = Placed bytes} r) = tt
 readies store cs stage (reads {stage = Durable bytes} r) = tt
 readies store cs stage (lists r) = tt
 readies store cs stage (clears other ours r) = tt
-readies store cs stage (misses other ours closed r) = tt
-readies store cs stage (makes other ours closed none r) = λ has. inl (none_is _ _ none has)
+readies store cs stage (misses other ours closed clear r) = tt
+readies store cs stage (fails other ours closed clear r) = tt
+readies store cs stage (makes other ours closed none clear r) = λ has. inl (none_is _ _ none has)
 readies store cs stage (permits is r) = λ has. inr (inl refl)
 readies store cs stage (forbids is r) = readies store _ _ r
 readies store cs stage (writes r) = readies store _ _ r
@@ -509,15 +549,17 @@ readies store cs stage (folder_synced r) = tt
 readies store cs stage (folder_unsynced r) = tt
 
 -- the new file has the access, before anything is written into it
-pub keeps_access : (store : List ℕ) {access : Option Rights} (cs : List Call) (stage : Stage) → Reaches store access cs stage
+pub keeps_access : (store : List ℕ) {folder : List ℕ} {access : Option Rights} (cs : List Call) (stage : Stage)
+    → Reaches store folder access cs stage
     → KeepsAccess access cs
 keeps_access store cs stage begins = tt
 keeps_access store cs stage (locks r) = keeps_access store _ _ r
 keeps_access store cs stage (reads r) = keeps_access store _ _ r
 keeps_access store cs stage (lists r) = keeps_access store _ _ r
 keeps_access store cs stage (clears other ours r) = keeps_access store _ _ r
-keeps_access store cs stage (misses other ours closed r) = (closed, keeps_access store _ _ r)
-keeps_access store cs stage (makes other ours closed none r) = (closed, keeps_access store _ _ r)
+keeps_access store cs stage (misses other ours closed clear r) = (closed, keeps_access store _ _ r)
+keeps_access store cs stage (fails other ours closed clear r) = (closed, keeps_access store _ _ r)
+keeps_access store cs stage (makes other ours closed none clear r) = (closed, keeps_access store _ _ r)
 keeps_access store cs stage (permits is r) = (is, keeps_access store _ _ r)
 keeps_access store cs stage (forbids is r) = (is, keeps_access store _ _ r)
 keeps_access store cs stage (writes r) = (readies store _ _ r refl, keeps_access store _ _ r)
@@ -538,17 +580,18 @@ IsItsOwn (Placed bytes) name = ⊥
 IsItsOwn (Durable bytes) name = ⊥
 
 -- this run has one file of its own at most: the one beside the store
-pub one_own : (store : List ℕ) {access : Option Rights} (cs : List Call) (stage : Stage) (name : List ℕ)
-    → Reaches store access cs stage → IsOwn cs name → IsItsOwn stage name
+pub one_own : (store : List ℕ) {folder : List ℕ} {access : Option Rights} (cs : List Call) (stage : Stage) (name : List ℕ)
+    → Reaches store folder access cs stage → IsOwn cs name → IsItsOwn stage name
 one_own store cs stage name begins own = own
 one_own store cs stage name (locks r) own = one_own store _ _ name r own
 one_own store cs stage name (reads r) own = one_own store _ _ name r own
 one_own store cs stage name (lists r) own = one_own store _ Idle name r own
 one_own store cs stage name (clears {done = true} other ours r) own = one_own store _ Idle name r own.1
 one_own store cs stage name (clears {done = false} other ours r) own = one_own store _ Idle name r own
-one_own store cs stage name (misses other ours closed r) own = one_own store _ Idle name r own
-one_own store cs stage name (makes other ours closed none r) (inl is) = is
-one_own store cs stage name (makes other ours closed none r) (inr own) = absurd (one_own store _ Idle name r own)
+one_own store cs stage name (misses other ours closed clear r) own = one_own store _ Idle name r own
+one_own store cs stage name (fails other ours closed clear r) own = one_own store _ Idle name r own
+one_own store cs stage name (makes other ours closed none clear r) (inl is) = is
+one_own store cs stage name (makes other ours closed none clear r) (inr own) = absurd (one_own store _ Idle name r own)
 one_own store cs stage name (permits is r) own = one_own store _ _ name r own
 one_own store cs stage name (forbids is r) own = one_own store _ _ name r own
 one_own store cs stage name (writes r) own = one_own store _ _ name r own

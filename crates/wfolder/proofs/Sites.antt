@@ -7,7 +7,7 @@ use Rattle.std.specs.Str.Parse.{AllDigits}
 use Rattle.std.proofs.lemmas.Fmt.{decimal_is_IsNumeral}
 use Rattle.std.proofs.lemmas.Str.Parse.{digit_from_value}
 use Rattle.std.proofs.lemmas.List.{append_cancel_left}
-use Rattle.wfolder.specs.Names.{IsNewBeside, IsNewName, IsSited, Site, is_number_byte}
+use Rattle.wfolder.specs.Names.{IsNewBeside, IsNewName, IsSited, Site, is_number_byte, numbered_path}
 
 -- a new file in the folder of a store stands beside it
 pub new_beside : (site : Site) (name path : List ℕ) → IsSited site → IsNewName name → path ≡ site.folder ++ 47 ∷ name
@@ -59,3 +59,7 @@ numbered name n fits is = subst IsNewName (sym is) (record {
   begins = refl;
   numbers = digit_bytes (decimal n) (decimal_is_IsNumeral n (omega (arith, fits))).0.1;
 })
+
+pub numbered_at : (folder name path : List ℕ) (n : ℕ) → path ≡ folder ++ 47 ∷ name
+    → name ≡ 46 ∷ 119 ∷ 115 ∷ 116 ∷ 111 ∷ 114 ∷ 101 ∷ 45 ∷ decimal n → path ≡ numbered_path folder n
+numbered_at folder name path n at is = at ∙ ap (λ (l : List ℕ). folder ++ 47 ∷ l) is

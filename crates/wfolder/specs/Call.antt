@@ -1,5 +1,5 @@
 -- A call on a file or a folder, with what it answered.
-use Rattle.std.specs.Prelude.{ℕ, Bool, List, Option}
+use Rattle.std.specs.Prelude.{ℕ, Bool, true, false, List, Option}
 use Rattle.std.specs.Fs.{permissions_mode}
 use Rattle.wfolder.specs.declared.folder.Access.{Access}
 
@@ -21,9 +21,10 @@ pub data Call : Type 0 where
   Found : List ℕ → Option (List ℕ) → Call
   -- the names of a folder's files that begin as those of new files do were listed, or could not be
   Listed : List ℕ → Option (List (List ℕ)) → Call
-  -- a new file is made under a name that leads to none, by the first flag for its owner alone; else the name is taken, or the call
-  -- failed
+  -- a new file is made under a name that leads to none, by the first flag for its owner alone
   Created : List ℕ → Bool → Bool → Call
+  -- none is made, since the name is taken
+  Taken : List ℕ → Bool → Call
   -- the file of a name is given an owner, a group and a mode
   Permitted : List ℕ → Rights → Bool → Call
   -- bytes are written at the end of the file of a name
@@ -38,3 +39,8 @@ pub data Call : Type 0 where
   Removed : List ℕ → Bool → Call
   -- the first bytes of the file of a name were read
   Began : List ℕ → List ℕ → Call
+
+-- a new file was made, or its name was taken
+abbrev pub made_or_taken : List ℕ → Bool → Bool → Call
+made_or_taken name closed true = Created name closed true
+made_or_taken name closed false = Taken name closed

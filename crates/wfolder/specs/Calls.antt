@@ -1,7 +1,8 @@
 -- What is counted of the program's calls on files and streams, and the causes of its faults.
-use Rattle.std.specs.Prelude.{◌≡◌, ◌⊎◌, ⊤, ℕ, ◌^◌, ◌≤◌, false, List, [], ◌∷◌, None}
+use Rattle.std.specs.Prelude.{◌≡◌, ◌⊎◌, ⊤, ℕ, zero, suc, ◌^◌, ◌≤◌, false, List, [], ◌∷◌, None}
 use Rattle.wfolder.specs.Call.{Call}
 use Rattle.wfolder.specs.Call as calls
+use Rattle.wfolder.specs.Names.{numbered_path}
 use Rattle.wfolder.specs.declared.fault.Fault.{Fault}
 use Rattle.wfolder.specs.declared.fault.Fault.TheVariants as faults
 
@@ -60,9 +61,21 @@ IsRefused faults.Write (calls.Moved from to false) = ⊤
 IsRefused faults.Write (calls.SyncedFolder false) = ⊤
 IsRefused fault c = ⊥
 
--- the last of the calls, but for removals, was refused, with a fault of its kind; of a growth that was refused no call tells
-abbrev pub HasRefusal : Fault → List Call → Type 0
-HasRefusal faults.NoMemory cs = ⊤
-HasRefusal fault [] = ⊥
-HasRefusal fault (calls.Removed name done ∷ cs) = HasRefusal fault cs
-HasRefusal fault (c ∷ cs) = IsRefused fault c
+-- how many names are tried for a new file
+abbrev pub tries : ℕ
+tries = 1_000
+
+-- the last calls found the names of so many tries taken, each with the number of its try, from 0 on
+abbrev pub HasTaken : List ℕ → ℕ → List Call → Type 0
+HasTaken folder zero cs = ⊤
+HasTaken folder (suc n) (calls.Taken name closed ∷ cs) = (name ≡ numbered_path folder n) × HasTaken folder n cs
+HasTaken folder (suc n) cs = ⊥
+
+-- the last of the calls, but for removals, was refused, with a fault of its kind; or the names of all tries in the folder were taken.
+-- A name that is taken is no refusal by itself. Of a growth that was refused no call tells
+abbrev pub HasRefusal : List ℕ → Fault → List Call → Type 0
+HasRefusal folder faults.NoMemory cs = ⊤
+HasRefusal folder fault [] = ⊥
+HasRefusal folder fault (calls.Removed name done ∷ cs) = HasRefusal folder fault cs
+HasRefusal folder faults.Write (calls.Taken name closed ∷ cs) = HasTaken folder tries (calls.Taken name closed ∷ cs)
+HasRefusal folder fault (c ∷ cs) = IsRefused fault c

@@ -1,5 +1,6 @@
 pub mod Call
 pub mod Calls
+pub mod Clearing
 pub mod Model
 pub mod Names
 pub mod Order

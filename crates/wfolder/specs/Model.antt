@@ -127,6 +127,7 @@ Does (calls.Began name bytes) d e = e ≡ d
 Does (calls.Listed folder names) d e = e ≡ d
 Does (calls.Created name closed true) d e = Creates name d e
 Does (calls.Created name closed false) d e = e ≡ d
+Does (calls.Taken name closed) d e = e ≡ d
 Does (calls.Permitted name rights done) d e = e ≡ d
 Does (calls.Wrote name written done) d e = Writes name written done d e
 Does (calls.Synced name done) d e = Syncs name done d e

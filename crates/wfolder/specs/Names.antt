@@ -1,6 +1,7 @@
 -- The names of new files, and of a store in its folder.
 use Rattle.std.specs.Prelude.{◌≡◌, ◌||◌, ◌==◌, ℕ, Bool, true, false, List, ◌∷◌, ◌++◌, take, drop, codes, Option}
 use Rattle.std.specs.List.{list_all, list_any}
+use Rattle.std.specs.Fmt.{decimal}
 use Rattle.std.specs.Char.{is_ascii_digit}
 use Rattle.wfolder.specs.Call.{Rights}
 
@@ -12,6 +13,10 @@ is_number_byte b = is_ascii_digit b || (b == 45)
 pub record IsNewName (name : List ℕ) : Type 0 where
   pub begins : take 8 name ≡ codes ".wstore-"
   pub numbers : list_all is_number_byte (drop 8 name) ≡ true
+
+-- the path of the new file of a try, by its number
+abbrev pub numbered_path : List ℕ → ℕ → List ℕ
+numbered_path folder n = folder ++ 47 ∷ (codes ".wstore-" ++ decimal n)
 
 -- a / stands in the name
 abbrev pub has_slash : List ℕ → Bool

@@ -3,6 +3,7 @@ use Rattle.std.specs.Prelude.{◌≡◌, ◌≢◌, ◌⊎◌, ⊤, ℕ, true, f
 use Rattle.wfolder.specs.Call.{Call, Rights}
 use Rattle.wfolder.specs.Call as calls
 use Rattle.wfolder.specs.Calls.{HasRefusal}
+use Rattle.wfolder.specs.Clearing.{ClearsLeft}
 use Rattle.wfolder.specs.Names.{IsNewBeside, Site}
 use Rattle.wfolder.specs.Model.{Disk, MayHold, IsOwn, Runs, holds}
 use Rattle.wfolder.specs.declared.fault.Fault.{Fault}
@@ -33,11 +34,12 @@ LeavesOldOrNew store bytes base cs = (d e : Disk) → Runs store base d cs e →
 abbrev pub IsNewHere : List ℕ → List ℕ → Type 0
 IsNewHere store name = (name ≢ store) × IsNewBeside store name
 
--- new files are made beside the store alone; only what this run made, or there a run that was killed, is removed; only what this run
--- made is written and moved, over the store alone
+-- new files are made beside the store alone, or tried to be; only what this run made, or there a run that was killed, is removed;
+-- only what this run made is written and moved, over the store alone
 abbrev pub ChangesOnlyOwn : List ℕ → List Call → Type 0
 ChangesOnlyOwn store [] = ⊤
 ChangesOnlyOwn store (calls.Created name closed done ∷ cs) = IsNewHere store name × ChangesOnlyOwn store cs
+ChangesOnlyOwn store (calls.Taken name closed ∷ cs) = IsNewHere store name × ChangesOnlyOwn store cs
 ChangesOnlyOwn store (calls.Permitted name rights done ∷ cs) = IsOwn cs name × ChangesOnlyOwn store cs
 ChangesOnlyOwn store (calls.Wrote name written done ∷ cs) = IsOwn cs name × ChangesOnlyOwn store cs
 ChangesOnlyOwn store (calls.Synced name done ∷ cs) = IsOwn cs name × ChangesOnlyOwn store cs
@@ -61,6 +63,7 @@ IsPermitted (c ∷ cs) name = IsPermitted cs name
 abbrev pub KeepsAccess : Option Rights → List Call → Type 0
 KeepsAccess access [] = ⊤
 KeepsAccess access (calls.Created name closed done ∷ cs) = (closed ≡ is_some access) × KeepsAccess access cs
+KeepsAccess access (calls.Taken name closed ∷ cs) = (closed ≡ is_some access) × KeepsAccess access cs
 KeepsAccess access (calls.Permitted name rights done ∷ cs) = (access ≡ Some rights) × KeepsAccess access cs
 KeepsAccess access (calls.Wrote name written done ∷ cs) = ((access ≡ None) ⊎ IsPermitted cs name) × KeepsAccess access cs
 KeepsAccess access (calls.Moved from to done ∷ cs) = ((access ≡ None) ⊎ IsPermitted cs from) × KeepsAccess access cs
@@ -89,7 +92,8 @@ pub record Replaces (site : Site) (bytes : List ℕ) (result : Result (Unit {0})
   pub is : new ≡ since ++ old
   pub own : ChangesOnlyOwn site.path since
   pub access : KeepsAccess site.access since
+  pub cleared : ClearsLeft site.folder since
   pub clears : ClearsOwn since
-  pub refusal : IfErr result (λ fault. HasRefusal (fault_of fault) since)
+  pub refusal : IfErr result (λ fault. HasRefusal site.folder (fault_of fault) since)
   pub moments : AtEachMoment (LeavesOldOrNew site.path bytes old) since
   pub end : (d e : Disk) → Runs site.path old d since e → IsEnd site.path bytes result d e

@@ -1,6 +1,7 @@
 //! The calls on a folder that replacing a store makes.
 ghost use Rattle.std.specs.Prelude.{◌≡◌, ◌≢◌, ◌∷◌, List, None, Some, IfOk, IfErr, OnOk, OnErr, is_ok, false, map, string_bytes};
-ghost use Rattle.wfolder.specs.Call.{Call, Listed, Created, Permitted, Wrote, Synced, Moved, SyncedFolder, Removed, rights_of};
+ghost use Rattle.wfolder.specs.Call.{Call, Listed, Created, Permitted, Wrote, Synced, Moved, SyncedFolder, Removed};
+ghost use Rattle.wfolder.specs.Call.{made_or_taken, rights_of};
 ghost use Rattle.wfolder.specs.Calls.{CallCounts, HasCause, NothingFailed};
 ghost use Rattle.wfolder.specs.declared.fault.Fault.TheVariants.{NoMemory};
 
@@ -55,7 +56,7 @@ pub trait Folder {
     /// owner alone.
     fn create_new(&mut self, path: &str, is_closed: bool) -> Result<bool, Fault>
         requires { NothingFailed (counts self.old) }
-        ensures made { IfOk result (λ is_made. calls self.new ≡ Created path.now is_closed is_made ∷ calls self.old) }
+        ensures made { IfOk result (λ is_made. calls self.new ≡ made_or_taken path.now is_closed is_made ∷ calls self.old) }
         ensures failed { OnErr result (calls self.new ≡ Created path.now is_closed false ∷ calls self.old) }
         ensures kind { IfErr result (λ fault. fault ≢ Fault.Read) }
         ensures sound { OnOk result (NothingFailed (counts self.new)) }

@@ -1,9 +1,10 @@
 //! A store, replaced whole.
-ghost use Rattle.std.specs.Prelude.{◌≡◌, ◌≢◌, ◌↔◌, ◌∷◌, [], Some, true, false, IfOk, IfErr, IfSome, IsTrue};
+ghost use Rattle.std.specs.Prelude.{◌≡◌, ◌≢◌, ◌↔◌, ◌∷◌, ◌++◌, [], Some, true, false, IfOk, IfErr, IfSome, IsTrue};
 ghost use Rattle.std.specs.Prelude.{OnOk, is_ok, is_some, option_map, string_bytes};
 ghost use Rattle.wfolder.specs.Calls.{HasCause, NothingFailed};
-ghost use Rattle.wfolder.specs.Names.{IsNewBeside, IsNewName};
-ghost use Rattle.wfolder.specs.Order.{Beside, Brings, Idle, LeavesBeside, LeavesIdle, MakesNew, Placed, new_file};
+ghost use Rattle.wfolder.specs.Names.{IsNewBeside, IsNewName, numbered_path};
+ghost use Rattle.wfolder.specs.Order.{Beside, Brings, Clears, ClearsOne, GivesUp, Idle, LeavesBeside, LeavesIdle, Makes, MakesNew};
+ghost use Rattle.wfolder.specs.Order.{Placed, new_file};
 ghost use Rattle.wfolder.specs.Call.{SyncedFolder};
 ghost use Rattle.wfolder.specs.Model.{IsLocked};
 ghost use Rattle.wfolder.specs.Replacing.{IsUnsynced, Replaces, fault_of};
@@ -21,6 +22,7 @@ const TRIES: u32 = 1000;
 fn path_beside(alloc: Global, target: &Target, name: &str) -> Result<Option<String>, AllocError>
     ensures beside { IfOk result (λ found. IfSome found (λ path. IsNewBeside target.now.path (string_bytes path)
         × (string_bytes path ≢ target.now.path))) }
+    ensures is { IfOk result (λ found. IfSome found (λ path. string_bytes path ≡ target.now.folder ++ 47 ∷ name.now)) }
     ensures found { IfOk result (λ found. IsTrue (is_some found) ↔ IsNewName name.now) }
 {
     if !is_new_name(name.as_bytes()) {
@@ -81,9 +83,9 @@ fn create_at<F: Folder>(
     requires sound { NothingFailed (F.counts folder.old) }
     requires ours { IsNewBeside target.now.path (string_bytes path) }
     requires other { string_bytes path ≢ target.now.path }
-    ensures makes { IfOk result (λ found. MakesNew target.now (F.calls folder.old) (F.calls folder.new)
+    ensures makes { IfOk result (λ found. MakesNew target.now (string_bytes path) (F.calls folder.old) (F.calls folder.new)
         (option_map (λ name. string_bytes name) found)) }
-    ensures idle { IfErr result (λ fault. LeavesIdle target.now fault (F.calls folder.old) (F.calls folder.new)) }
+    ensures idle { IfErr result (λ fault. GivesUp target.now fault (F.calls folder.old) (F.calls folder.new)) }
     ensures sound { OnOk result (NothingFailed (F.counts folder.new)) }
     ensures cause { IfErr result (λ fault. HasCause fault (F.counts folder.new)) }
 {
@@ -102,9 +104,9 @@ fn try_new<F: Folder>(
     number: u32,
 ) -> Result<Option<String>, Fault>
     requires sound { NothingFailed (F.counts folder.old) }
-    ensures makes { IfOk result (λ found. MakesNew target.now (F.calls folder.old) (F.calls folder.new)
-        (option_map (λ name. string_bytes name) found)) }
-    ensures idle { IfErr result (λ fault. LeavesIdle target.now fault (F.calls folder.old) (F.calls folder.new)) }
+    ensures makes { IfOk result (λ found. MakesNew target.now (numbered_path target.now.folder number) (F.calls folder.old)
+        (F.calls folder.new) (option_map (λ name. string_bytes name) found)) }
+    ensures idle { IfErr result (λ fault. GivesUp target.now fault (F.calls folder.old) (F.calls folder.new)) }
     ensures sound { OnOk result (NothingFailed (F.counts folder.new)) }
     ensures cause { IfErr result (λ fault. HasCause fault (F.counts folder.new)) }
 {
@@ -121,9 +123,8 @@ fn try_new<F: Folder>(
 // Makes a new file beside the store, under a name that is free.
 fn make_new<F: Folder>(alloc: Global, folder: &mut F, target: &Target) -> Result<String, Fault>
     requires sound { NothingFailed (F.counts folder.old) }
-    ensures made { IfOk result (λ name. Brings target.now (F.calls folder.old) Idle (F.calls folder.new)
-        (new_file target.now (string_bytes name))) }
-    ensures idle { IfErr result (λ fault. LeavesIdle target.now fault (F.calls folder.old) (F.calls folder.new)) }
+    ensures made { IfOk result (λ name. Makes target.now (F.calls folder.old) (F.calls folder.new) (string_bytes name)) }
+    ensures idle { IfErr result (λ fault. GivesUp target.now fault (F.calls folder.old) (F.calls folder.new)) }
     ensures sound { OnOk result (NothingFailed (F.counts folder.new)) }
     ensures cause { IfErr result (λ fault. HasCause fault (F.counts folder.new)) }
 {
@@ -145,7 +146,7 @@ fn clear_name<F: Folder>(
     name: &str,
 ) -> Result<(), Fault>
     requires sound { NothingFailed (F.counts folder.old) }
-    ensures cleared { OnOk result (Brings target.now (F.calls folder.old) Idle (F.calls folder.new) Idle) }
+    ensures cleared { OnOk result (ClearsOne target.now name.now (F.calls folder.old) (F.calls folder.new)) }
     ensures idle { IfErr result (λ fault. LeavesIdle target.now fault (F.calls folder.old) (F.calls folder.new)) }
     ensures sound { OnOk result (NothingFailed (F.counts folder.new)) }
     ensures cause { IfErr result (λ fault. HasCause fault (F.counts folder.new)) }
@@ -163,7 +164,7 @@ fn clear_name<F: Folder>(
 // Removes what runs that were killed have left in the folder. This run holds its lock, so no other is at work there.
 fn clear<F: Folder>(alloc: Global, folder: &mut F, target: &Target) -> Result<(), Fault>
     requires sound { NothingFailed (F.counts folder.old) }
-    ensures cleared { OnOk result (Brings target.now (F.calls folder.old) Idle (F.calls folder.new) Idle) }
+    ensures cleared { OnOk result (Clears target.now (F.calls folder.old) (F.calls folder.new)) }
     ensures idle { IfErr result (λ fault. LeavesIdle target.now fault (F.calls folder.old) (F.calls folder.new)) }
     ensures sound { OnOk result (NothingFailed (F.counts folder.new)) }
     ensures cause { IfErr result (λ fault. HasCause fault (F.counts folder.new)) }
