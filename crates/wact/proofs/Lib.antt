@@ -1,3 +1,4 @@
 pub mod Outcomes
 pub mod Replying
 pub mod Delivering
+pub mod LongFacts

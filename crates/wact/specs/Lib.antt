@@ -4,3 +4,4 @@ pub mod Streams
 pub mod Delivering
 pub mod Acts
 pub mod Opening
+pub mod Laws

@@ -15,11 +15,13 @@
 mod acted;
 mod acting;
 mod feeding;
+mod laws;
 mod opening;
 mod queries;
 
 pub use acted::{Acted, refused};
 pub use acting::act;
 pub use feeding::{feed_node, feed_store, undelivered};
+pub use laws::long_is_refused_alike;
 pub use opening::{Opened, Purpose, hashed, open_store};
 pub use queries::{QueryReply, reply};

@@ -40,17 +40,17 @@ abbrev pub AddsMissing : List Described → List ℕ → List ℕ → Type 0
 AddsMissing columns old new = (new ≡ old) ⊎ ((column : Described) × Contains columns column
     × (new ≡ old ++ (codes "there is no column " ++ column.name)))
 
--- where a segment has a fault is added to a text. Which field and which column it is, is only tested; that nothing is added only where
--- there is none is not proved
-abbrev pub AddsSegmentPlace : List Described → SegmentFault → List ℕ → List ℕ → List ℕ → Type 0
-AddsSegmentPlace columns segments.TooLong bytes old new = new ≡ old ++ length_text bytes
-AddsSegmentPlace columns segments.NoHeader bytes old new = new ≡ old
-AddsSegmentPlace columns segments.HeaderNotUtf8 bytes old new = AddsHeaderField old new
-AddsSegmentPlace columns (segments.RowNotUtf8 row) bytes old new = AddsRow row old new
-AddsSegmentPlace columns segments.UnknownColumn bytes old new = AddsHeaderField old new
-AddsSegmentPlace columns segments.RepeatedColumn bytes old new = AddsHeaderField old new
-AddsSegmentPlace columns segments.MissingColumn bytes old new = AddsMissing columns old new
-AddsSegmentPlace columns (segments.RowLength row) bytes old new = AddsLengths row old new
-AddsSegmentPlace columns (segments.NotInteger row) bytes old new = AddsRow row old new
-AddsSegmentPlace columns segments.TooManyRows bytes old new = new ≡ old
-AddsSegmentPlace columns segments.NoMemory bytes old new = new ≡ old
+-- where a segment has a fault is added to a text; of one that is too long nothing, since it need not have been read to its end. Which
+-- field and which column it is, is only tested; that nothing is added only where there is none is not proved
+abbrev pub AddsSegmentPlace : List Described → SegmentFault → List ℕ → List ℕ → Type 0
+AddsSegmentPlace columns segments.TooLong old new = new ≡ old
+AddsSegmentPlace columns segments.NoHeader old new = new ≡ old
+AddsSegmentPlace columns segments.HeaderNotUtf8 old new = AddsHeaderField old new
+AddsSegmentPlace columns (segments.RowNotUtf8 row) old new = AddsRow row old new
+AddsSegmentPlace columns segments.UnknownColumn old new = AddsHeaderField old new
+AddsSegmentPlace columns segments.RepeatedColumn old new = AddsHeaderField old new
+AddsSegmentPlace columns segments.MissingColumn old new = AddsMissing columns old new
+AddsSegmentPlace columns (segments.RowLength row) old new = AddsLengths row old new
+AddsSegmentPlace columns (segments.NotInteger row) old new = AddsRow row old new
+AddsSegmentPlace columns segments.TooManyRows old new = new ≡ old
+AddsSegmentPlace columns segments.NoMemory old new = new ≡ old

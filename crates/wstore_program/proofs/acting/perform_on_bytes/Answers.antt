@@ -1,5 +1,5 @@
 use Rattle.std.proofs.Common.{inl, refl}
-use Rattle.wstore_program.specs.Performing.{All, Unlocked, NotCarriedOut}
+use Rattle.wstore_program.specs.Performing.{Bytes, Unlocked, NotCarriedOut}
 use Rattle.wstore_program.proofs.Performed.{ended_on_bytes, grown_is}
 use Rattle.wstore_program.proofs.acting.perform_on_bytes.Goals as goal
 
@@ -11,7 +11,7 @@ finish-requires-clause-gives g c = (
 )
 
 pub returns-in-Err-grown-clause-ended : goal.returns-in-Err-grown-clause-ended
-returns-in-Err-grown-clause-ended g c = NotCarriedOut _ _ (All c.in-Ok.ensures.read) (Unlocked (inl refl))
+returns-in-Err-grown-clause-ended g c = NotCarriedOut _ _ (Bytes c.in-Ok.ensures.read) (Unlocked (inl refl))
 
 pub returns-clause-ended : goal.returns-clause-ended
 returns-clause-ended g c = ended_on_bytes _ _ _ _ _ _ _ _ c.finish.result c.as_slice-other.ensures.value c.in-Ok.ensures.read

@@ -1,6 +1,6 @@
 use Rattle.std.proofs.Common.{rules}
 use Rattle.std.specs.Io.KnownBytes.{IsAtEnd}
-use Rattle.wstore_program.proofs.Streamed.{noted_at_end, refused_at_end, refused_in_block}
+use Rattle.wstore_program.proofs.Streamed.{refused_at_end, refused_in_block}
 use Rattle.wstore_program.proofs.feeding.fill.Goals as goal
 
 pub returns-in-Err-push-clause-refused : goal.returns-in-Err-push-clause-refused
