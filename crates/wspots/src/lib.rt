@@ -1,16 +1,19 @@
 //! Where in the text of a query it stops being one, and where a name stands that breaks a rule.
 //!
 //! - Gives the line of the query, with a caret below the first token behind which no query goes on, or below the first name
-//!   that breaks a rule, in the innermost SELECT that has one.
+//!   that breaks a rule, in the innermost SELECT that has one. GROUPING and the item `*` are pointed at like names.
 //! - Promises: what is added is a line of the query with a caret and a note below it, or nothing. That these are the places is tested,
 //!   and not proved.
 //! - Asks: the tokens of the query. Where no name tells how a rule is broken, nothing is told.
-//! - Leaves judging to `wparser` and `wrules`, and following the tokens to `wgrammar`.
+//! - Leaves judging to `wparser` and `wrules`, following the tokens to `wgrammar`, and where they stand to `wclauses`.
 //!
-//! Read `src/places.rt`, then `src/names.rt` and `src/scene.rt`.
+//! Read `src/places.rt`, `src/names.rt` and `src/scene.rt`, then `src/calls.rt` and `src/groups.rt`.
 #![tactic(auto)]
 
+mod calls;
+mod groups;
 mod names;
+mod notes;
 mod outputs;
 mod places;
 mod scene;

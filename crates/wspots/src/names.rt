@@ -1,17 +1,26 @@
 //! Where in a query the name stands that breaks a rule.
 
-use crate::scene::{Named, Scene, Written, has_filter, has_over, is_wrong_key, name_at};
+use crate::calls::{
+    long_grouping, misplaced_aggregate, misplaced_function, misplaced_grouping, wrong_call,
+    wrong_filter,
+};
+use crate::groups::{ungrouped_column, ungrouped_star};
+use crate::notes::{Breach, Told, push_told};
+use crate::outputs::count_items;
+use crate::scene::{Scene, Written, is_wrong_key};
 use std::alloc::{AllocError, Global};
-use wgrammar::Role;
+use wclauses::{Clauses, name_at};
+use wgrammar::{Role, follow};
 use wlexer::Token;
 use wquery::{Query, Source};
-use wscope::{
-    Function, SourceColumn, declared_columns, function_of, has_column, output_columns, place_named,
-};
-use wshown::{push_number, push_text};
+use wscope::{SourceColumn, declared_columns, has_column, output_columns, place_named};
+use wsegment::Schema;
 
 /// More SELECTs than can stand one in another.
 const MOST_QUERIES: usize = 66;
+
+/// The most items of a SELECT that breaks no rule.
+const MOST_ITEMS: usize = 64;
 
 /// The token of a name, by its number, and what is told of it.
 #[derive(Drop)]
@@ -19,27 +28,6 @@ pub(crate) struct Spot {
     pub(crate) token: usize,
     pub(crate) note: String,
 }
-
-/// What is told of a name beside the sentence.
-#[derive(Clone, Copy)]
-enum Told {
-    /// The name of the table.
-    Table,
-    /// The name of the source.
-    Source,
-    /// The columns of the source.
-    Columns,
-    /// The places of two columns, from 0.
-    TwoColumns(usize, usize),
-    /// The places of two items, from 0.
-    TwoItems(usize, usize),
-    /// The number of items.
-    Items,
-    Nothing,
-}
-
-/// A token by its number, and what is told of it.
-type Breach = (usize, Told);
 
 // A table that is not the declared one.
 fn other_table(scene: &Scene<'_>, number: usize) -> Option<Breach> {
@@ -60,15 +48,10 @@ fn other_source(scene: &Scene<'_>, number: usize) -> Option<Breach> {
     Some((mark.token, Told::Source))
 }
 
-// Whether a column stands for an item of this name: it is a key of ORDER BY by itself.
-fn is_output(scene: &Scene<'_>, number: usize, named: &Named<'_>) -> bool {
-    named.qualifier.is_none() && scene.outputs.has(named.name) && scene.is_key(number)
-}
-
 // A column that the source lacks.
 fn missing_column(scene: &Scene<'_>, number: usize) -> Option<Breach> {
     let named = scene.column(number)?;
-    if has_column(scene.columns, named.name) || is_output(scene, number, &named) {
+    if has_column(scene.columns, named.name) || scene.is_output(number, &named) {
         return None;
     }
     Some((named.token, Told::Columns))
@@ -83,57 +66,13 @@ fn second_named(columns: &[SourceColumn], name: &str, first: usize) -> Option<us
 // A name that two columns have, or two items.
 fn ambiguous_name(scene: &Scene<'_>, number: usize) -> Option<Breach> {
     let named = scene.column(number)?;
-    if is_output(scene, number, &named) {
+    if scene.is_output(number, &named) {
         let (one, other) = scene.outputs.two_called(named.name)?;
         return Some((named.token, Told::TwoItems(one, other)));
     }
     let first = place_named(scene.columns, named.name);
     let second = second_named(scene.columns, named.name, first)?;
     Some((named.token, Told::TwoColumns(first, second)))
-}
-
-// The function that is named at a token.
-fn function_at(tokens: &[Token], number: usize) -> Option<Function> {
-    function_of(name_at(tokens, number)?)
-}
-
-fn is_aggregate(function: Function) -> bool {
-    match function {
-        Function::Count => true,
-        Function::Sum => true,
-        Function::Min => true,
-        Function::Max => true,
-        _ => false,
-    }
-}
-
-// A function that there is not.
-fn unknown_function(scene: &Scene<'_>, number: usize) -> Option<Breach> {
-    let token = scene.function(number)?;
-    match function_at(scene.tokens, token) {
-        Some(_) => None,
-        None => Some((token, Told::Nothing)),
-    }
-}
-
-// A window function without OVER.
-fn lone_function(scene: &Scene<'_>, number: usize) -> Option<Breach> {
-    let token = scene.function(number)?;
-    let function = function_at(scene.tokens, token)?;
-    if is_aggregate(function) || has_over(scene.tokens, token) {
-        return None;
-    }
-    Some((token, Told::Nothing))
-}
-
-// A function with FILTER that is no aggregate.
-fn wrong_filter(scene: &Scene<'_>, number: usize) -> Option<Breach> {
-    let token = scene.function(number)?;
-    let function = function_at(scene.tokens, token)?;
-    if is_aggregate(function) || !has_filter(scene.tokens, token) {
-        return None;
-    }
-    Some((token, Told::Nothing))
 }
 
 // Whether the mark before one is the WINDOW entry that it belongs to.
@@ -143,20 +82,28 @@ fn entry_before(scene: &Scene<'_>, number: usize) -> Option<usize> {
     Some(before)
 }
 
+// What is told of a window, copied by the entry at a mark, if one does.
+fn windows_told(copier: Option<usize>) -> Told {
+    match copier {
+        Some(entry) => Told::WindowsBefore(entry),
+        None => Told::Windows,
+    }
+}
+
 // The window that is used or copied at a mark, which no entry defines that may be meant.
 fn unknown_window(scene: &Scene<'_>, number: usize) -> Option<Breach> {
     let mark = scene.mark(number)?;
     if mark.role != Role::Use && mark.role != Role::Copy {
         return None;
     }
-    let bound = match mark.role {
-        Role::Copy => entry_before(scene, number).unwrap_or(scene.marks.len()),
-        _ => scene.marks.len(),
+    let copier = match mark.role {
+        Role::Copy => entry_before(scene, number),
+        _ => None,
     };
     let name = name_at(scene.tokens, mark.token)?;
     match scene.entries.get(name) {
-        Some(entry) if *entry < bound => None,
-        _ => Some((mark.token, Told::Nothing)),
+        Some(entry) if *entry < copier.unwrap_or(scene.marks.len()) => None,
+        _ => Some((mark.token, windows_told(copier))),
     }
 }
 
@@ -191,8 +138,10 @@ fn breach_at(scene: &Scene<'_>, number: usize, rule: u8) -> Option<Breach> {
         },
         11 => missing_column(scene, number),
         12 => ambiguous_name(scene, number),
-        13 => unknown_function(scene, number),
-        15 => lone_function(scene, number),
+        13 => wrong_call(scene, number),
+        15 => misplaced_function(scene, number),
+        16 => misplaced_aggregate(scene, number),
+        17 => ungrouped_column(scene, number),
         18 => wrong_filter(scene, number),
         19 => unknown_window(scene, number),
         20 => repeated_window(scene, number),
@@ -201,76 +150,58 @@ fn breach_at(scene: &Scene<'_>, number: usize, rule: u8) -> Option<Breach> {
     }
 }
 
-// Adds the name of the source and its columns.
-fn push_columns(alloc: Global, text: &mut String, scene: &Scene<'_>) -> Result<(), AllocError> {
-    push_text(text, scene.alias())?;
-    text.push_str(" has ")?;
-    let mut names = String::new(alloc);
-    'columns: for (place, column) in scene.columns.iter().enumerate() {
-        if place > 0 {
-            names.push_str(", ")?;
-        }
-        names.push_str(column.name.as_str())?;
-    }
-    push_text(text, names.as_str())
-}
-
-// Adds two places, counted from 1.
-fn push_two(
-    text: &mut String,
-    what: &str,
-    one: usize,
-    other: usize,
-    behind: &str,
-) -> Result<(), AllocError> {
-    text.push_str(what)?;
-    text.push(' ')?;
-    push_number(text, (one as u64).saturating_add(1))?;
-    text.push_str(" and ")?;
-    push_number(text, (other as u64).saturating_add(1))?;
-    text.push_str(behind)
-}
-
-// Adds what is told of a name.
-fn push_told(
-    alloc: Global,
-    text: &mut String,
-    scene: &Scene<'_>,
-    told: Told,
-) -> Result<(), AllocError> {
-    match told {
-        Told::Table => {
-            text.push_str("the table is ")?;
-            push_text(text, scene.schema.table())
-        }
-        Told::Source => {
-            text.push_str("the source is ")?;
-            push_text(text, scene.alias())
-        }
-        Told::Columns => push_columns(alloc, text, scene),
-        Told::TwoColumns(one, other) => {
-            push_two(text, "columns", one, other, " of ")?;
-            push_text(text, scene.alias())
-        }
-        Told::TwoItems(one, other) => push_two(text, "items", one, other, ""),
-        Told::Items => {
-            push_number(text, scene.outputs.len() as u64)?;
-            text.push_str(" items")
-        }
-        Told::Nothing => Ok(()),
+// What breaks a rule at the token of this number, which is no name.
+fn breach_at_token(scene: &Scene<'_>, number: usize, rule: u8) -> Option<Breach> {
+    match rule {
+        13 => long_grouping(scene, number),
+        16 => misplaced_grouping(scene, number),
+        17 => ungrouped_star(scene, number),
+        _ => None,
     }
 }
 
 // The first name of a SELECT that breaks a rule.
-fn find_in(alloc: Global, scene: &Scene<'_>, rule: u8) -> Result<Option<Spot>, AllocError> {
+fn first_name(scene: &Scene<'_>, rule: u8) -> Option<Breach> {
     'marks: for number in 0..scene.marks.len() {
-        if let Some((token, told)) = breach_at(scene, number, rule) {
-            let mut note = String::new(alloc);
-            push_told(alloc, &mut note, scene, told)?;
-            return Ok(Some(Spot { token, note }));
+        let breach = breach_at(scene, number, rule);
+        if breach.is_some() {
+            return breach;
         }
     }
-    Ok(None)
+    None
+}
+
+// The first other token of a SELECT that breaks a rule.
+fn first_token(scene: &Scene<'_>, rule: u8) -> Option<Breach> {
+    if !matches!(rule, 13 | 16 | 17) {
+        return None;
+    }
+    'tokens: for number in 0..scene.tokens.len() {
+        let breach = breach_at_token(scene, number, rule);
+        if breach.is_some() {
+            return breach;
+        }
+    }
+    None
+}
+
+// The one of two that stands before the other.
+fn earlier(one: Option<Breach>, other: Option<Breach>) -> Option<Breach> {
+    match (one, other) {
+        (Some(one), Some(other)) if other.0 < one.0 => Some(other),
+        (Some(one), _) => Some(one),
+        (None, other) => other,
+    }
+}
+
+// The first place in a SELECT where a rule is broken, and what is told of it.
+fn find_in(alloc: Global, scene: &Scene<'_>, rule: u8) -> Result<Option<Spot>, AllocError> {
+    let Some((token, told)) = earlier(first_name(scene, rule), first_token(scene, rule)) else {
+        return Ok(None);
+    };
+    let mut note = String::new(alloc);
+    push_told(alloc, &mut note, scene, told)?;
+    Ok(Some(Spot { token, note }))
 }
 
 // The SELECTs of a query, the outermost first.
@@ -300,8 +231,8 @@ fn find_over(
     find_in(alloc, &scene, rule)
 }
 
-/// The first name that breaks a rule, in the innermost SELECT that has one, which is the one that is judged first.
-pub(crate) fn find_name(
+// The first place where a rule is broken, in the innermost SELECT that has one. Around a SELECT of too many items none is judged.
+fn find_written(
     alloc: Global,
     written: Written<'_>,
     query: &Query,
@@ -314,8 +245,30 @@ pub(crate) fn find_name(
         if found.is_some() {
             return Ok(found);
         }
+        if count_items(columns.len(), select.items.as_slice()) > MOST_ITEMS {
+            return Ok(None);
+        }
         let items = output_columns(alloc, columns.as_slice(), select.items.as_slice())?;
         columns = items;
     }
     Ok(None)
+}
+
+/// The first place where a rule is broken, in the innermost SELECT that has one, which is the one that is judged first.
+pub(crate) fn find_name(
+    alloc: Global,
+    schema: &Schema,
+    tokens: &[Token],
+    query: &Query,
+    rule: u8,
+) -> Result<Option<Spot>, AllocError> {
+    let followed = follow(alloc, tokens)?;
+    let clauses = Clauses::new(alloc, tokens)?;
+    let written = Written {
+        schema,
+        tokens,
+        marks: followed.marks.as_slice(),
+        clauses: &clauses,
+    };
+    find_written(alloc, written, query, rule)
 }

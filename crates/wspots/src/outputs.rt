@@ -9,7 +9,8 @@ use wscope::{SourceColumn, output_name, place_named};
 /// An item, as ORDER BY can name it.
 #[derive(Clone, Copy)]
 struct Output<'a> {
-    name: &'a str,
+    /// Its place, from 0.
+    place: usize,
     /// The column that it is, by its place in the source.
     column: Option<usize>,
     /// What it is, where it was written.
@@ -19,9 +20,12 @@ struct Output<'a> {
 /// The items of a SELECT by their names.
 #[derive(Drop)]
 pub(crate) struct Outputs<'a> {
-    all: Vec<Output<'a>>,
-    /// The place of the first item of a name.
-    first: BTreeMap<&'a str, usize>,
+    /// How many there are.
+    count: usize,
+    /// Whether `*` is one of them. A second one names nothing more.
+    has_all: bool,
+    /// The first item of a name.
+    first: BTreeMap<&'a str, Output<'a>>,
     /// The place of the first item of a name that is another expression than the first.
     other: BTreeMap<&'a str, usize>,
 }
@@ -54,7 +58,8 @@ impl<'a> Outputs<'a> {
         items: &'a [Item],
     ) -> Result<Outputs<'a>, AllocError> {
         let mut outputs = Outputs {
-            all: Vec::new(alloc),
+            count: 0,
+            has_all: false,
             first: BTreeMap::new(alloc),
             other: BTreeMap::new(alloc),
         };
@@ -66,7 +71,7 @@ impl<'a> Outputs<'a> {
 
     /// How many there are.
     pub(crate) fn len(&self) -> usize {
-        self.all.len()
+        self.count
     }
 
     /// Whether some item has this name.
@@ -78,60 +83,62 @@ impl<'a> Outputs<'a> {
     pub(crate) fn two_called(&self, name: &str) -> Option<(usize, usize)> {
         let first = self.first.get(name)?;
         let other = self.other.get(name)?;
-        Some((*first, *other))
+        Some((first.place, *other))
     }
 
-    // The place of the first item of a name.
-    fn place_called(&self, name: &str) -> Option<usize> {
+    // The first item of a name.
+    fn first_called(&self, name: &str) -> Option<Output<'a>> {
         match self.first.get(name) {
-            Some(place) => Some(*place),
+            Some(output) => Some(*output),
             None => None,
         }
     }
 
     // Adds an item.
-    fn push(&mut self, output: Output<'a>) -> Result<(), AllocError> {
-        let place = self.all.len();
-        match self.place_called(output.name) {
+    fn push(
+        &mut self,
+        name: &'a str,
+        column: Option<usize>,
+        expression: Option<&'a Expression>,
+    ) -> Result<(), AllocError> {
+        let output = Output {
+            place: self.count,
+            column,
+            expression,
+        };
+        self.count = self.count.saturating_add(1);
+        match self.first_called(name) {
             None => {
-                self.first.insert(output.name, place)?;
+                self.first.insert(name, output)?;
             }
-            Some(first) => self.push_other(first, output, place)?,
+            Some(first) => self.push_other(name, &first, &output)?,
         }
-        self.all.push(output)?;
         Ok(())
-    }
-
-    // Whether the item at a place is another expression.
-    fn differs(&self, place: usize, output: &Output<'a>) -> bool {
-        match self.all.get(place) {
-            Some(earlier) => differ(earlier, output),
-            None => false,
-        }
     }
 
     // Notes the first item of a name that is another expression than the first.
     fn push_other(
         &mut self,
-        first: usize,
-        output: Output<'a>,
-        place: usize,
+        name: &'a str,
+        first: &Output<'a>,
+        output: &Output<'a>,
     ) -> Result<(), AllocError> {
-        if self.other.contains_key(output.name) || !self.differs(first, &output) {
+        if self.other.contains_key(name) || !differ(first, output) {
             return Ok(());
         }
-        self.other.insert(output.name, place)?;
+        self.other.insert(name, output.place)?;
         Ok(())
     }
 
     // Adds all columns of the source.
     fn push_columns(&mut self, columns: &'a [SourceColumn]) -> Result<(), AllocError> {
+        if self.has_all {
+            self.count = self.count.saturating_add(columns.len());
+            return Ok(());
+        }
+        self.has_all = true;
         'columns: for (place, column) in columns.iter().enumerate() {
-            self.push(Output {
-                name: column.name.as_str(),
-                column: Some(place),
-                expression: None,
-            })?;
+            self.push(column.name.as_str(), Some(place), None)?;
         }
         Ok(())
     }
@@ -140,11 +147,24 @@ impl<'a> Outputs<'a> {
     fn push_item(&mut self, columns: &'a [SourceColumn], item: &'a Item) -> Result<(), AllocError> {
         match item {
             Item::All => self.push_columns(columns),
-            Item::Value { expression, alias } => self.push(Output {
-                name: output_name(expression, alias),
-                column: place_of(columns, expression),
-                expression: Some(expression),
-            }),
+            Item::Value { expression, alias } => self.push(
+                output_name(expression, alias),
+                place_of(columns, expression),
+                Some(expression),
+            ),
         }
     }
+}
+
+/// How many items a SELECT has over so many columns, `*` written out.
+pub(crate) fn count_items(columns: usize, items: &[Item]) -> usize {
+    let mut count = 0usize;
+    'items: for item in items {
+        let more = match item {
+            Item::All => columns,
+            Item::Value { .. } => 1,
+        };
+        count = count.saturating_add(more);
+    }
+    count
 }

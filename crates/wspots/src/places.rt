@@ -3,7 +3,6 @@ ghost use Rattle.std.specs.Prelude.{OnOk, string_bytes};
 ghost use Rattle.wshown.specs.Shown.{MayPoint};
 
 use crate::names::{Spot, find_name};
-use crate::scene::Written;
 use std::alloc::{AllocError, Global};
 use wgrammar::{Stop, follow};
 use wlexer::{Keyword, Lexeme, Token};
@@ -128,13 +127,7 @@ pub fn push_breach(
     let Ok(parsed) = parse(alloc, tokens) else {
         return Ok(());
     };
-    let followed = follow(alloc, tokens)?;
-    let written = Written {
-        schema,
-        tokens,
-        marks: followed.marks.as_slice(),
-    };
-    let found = find_name(alloc, written, &parsed, rule)?;
+    let found = find_name(alloc, schema, tokens, &parsed, rule)?;
     match found {
         Some(spot) => push_spot(alloc, text, query, tokens, &spot),
         None => Ok(()),

@@ -2,7 +2,8 @@
 
 use crate::outputs::Outputs;
 use std::alloc::{AllocError, Global};
-use std::collections::BTreeMap;
+use std::collections::{BTreeMap, BTreeSet};
+use wclauses::{Clause, Clauses, Given, is_called, is_parenthesis, is_symbol, name_at};
 use wgrammar::{Mark, Role};
 use wlexer::{Keyword, Lexeme, Symbol, Token};
 use wquery::{Query, Source};
@@ -15,6 +16,7 @@ pub(crate) struct Written<'a> {
     pub(crate) schema: &'a Schema,
     pub(crate) tokens: &'a [Token],
     pub(crate) marks: &'a [Mark],
+    pub(crate) clauses: &'a Clauses,
 }
 
 /// One SELECT of a query.
@@ -32,6 +34,14 @@ pub(crate) struct Scene<'a> {
     pub(crate) tokens: &'a [Token],
     /// The names of the whole text.
     pub(crate) marks: &'a [Mark],
+    /// Where all tokens of the text stand.
+    pub(crate) clauses: &'a Clauses,
+    /// Whether it is grouped.
+    pub(crate) is_grouped: bool,
+    /// The names of the columns in its GROUP BY.
+    grouped: BTreeSet<&'a str>,
+    /// Where it is grouped, the place of the first column of its source that is not in GROUP BY, from 0.
+    pub(crate) ungrouped: Option<usize>,
     /// How many SELECTs stand around it.
     pub(crate) level: usize,
 }
@@ -44,52 +54,6 @@ pub(crate) struct Named<'a> {
     pub(crate) name: &'a str,
     /// The number of the name's token.
     pub(crate) token: usize,
-}
-
-/// The name that a token is.
-pub(crate) fn name_at(tokens: &[Token], number: usize) -> Option<&str> {
-    match tokens.get(number) {
-        Some(token) => match &token.lexeme {
-            Lexeme::Name(name) => Some(name.as_str()),
-            _ => None,
-        },
-        None => None,
-    }
-}
-
-// Whether a token is this symbol.
-fn is_symbol(tokens: &[Token], number: usize, symbol: Symbol) -> bool {
-    match tokens.get(number) {
-        Some(token) => match &token.lexeme {
-            Lexeme::Symbol(other) => *other == symbol,
-            _ => false,
-        },
-        None => false,
-    }
-}
-
-// Whether a token is this keyword.
-fn is_keyword(tokens: &[Token], number: usize, keyword: Keyword) -> bool {
-    match tokens.get(number) {
-        Some(token) => match &token.lexeme {
-            Lexeme::Keyword(other) => *other == keyword,
-            _ => false,
-        },
-        None => false,
-    }
-}
-
-fn is_parenthesis(token: &Token) -> bool {
-    match &token.lexeme {
-        Lexeme::Symbol(Symbol::OpenParenthesis) => true,
-        Lexeme::Symbol(Symbol::CloseParenthesis) => true,
-        _ => false,
-    }
-}
-
-/// Whether the name at a token is that of a function.
-pub(crate) fn is_called(tokens: &[Token], number: usize) -> bool {
-    is_symbol(tokens, number.saturating_add(1), Symbol::OpenParenthesis)
 }
 
 /// The column that is named at a token, if it is none of a function.
@@ -113,43 +77,6 @@ pub(crate) fn column_at(tokens: &[Token], number: usize) -> Option<Named<'_>> {
     })
 }
 
-/// What stands behind a pair of parentheses that opens at a token.
-fn behind_pair(tokens: &[Token], number: usize) -> usize {
-    let mut depth = 0usize;
-    'tokens: for i in number..tokens.len() {
-        if is_symbol(tokens, i, Symbol::OpenParenthesis) {
-            depth = depth.saturating_add(1);
-        }
-        if is_symbol(tokens, i, Symbol::CloseParenthesis) {
-            depth = depth.saturating_sub(1);
-        }
-        if depth == 0 {
-            return i.saturating_add(1);
-        }
-    }
-    tokens.len()
-}
-
-// What stands behind the arguments of the function at a token.
-fn behind_arguments(tokens: &[Token], number: usize) -> usize {
-    behind_pair(tokens, number.saturating_add(1))
-}
-
-/// Whether the function at a token has FILTER.
-pub(crate) fn has_filter(tokens: &[Token], number: usize) -> bool {
-    is_keyword(tokens, behind_arguments(tokens, number), Keyword::Filter)
-}
-
-/// Whether the function at a token has OVER.
-pub(crate) fn has_over(tokens: &[Token], number: usize) -> bool {
-    let behind = behind_arguments(tokens, number);
-    if !is_keyword(tokens, behind, Keyword::Filter) {
-        return is_keyword(tokens, behind, Keyword::Over);
-    }
-    let behind = behind_pair(tokens, behind.saturating_add(1));
-    is_keyword(tokens, behind, Keyword::Over)
-}
-
 // The WINDOW entries of a SELECT by their names.
 fn entries_of<'a>(
     alloc: Global,
@@ -170,6 +97,65 @@ fn entries_of<'a>(
     Ok(entries)
 }
 
+// The names of the columns in the GROUP BY of a SELECT.
+fn grouped_of<'a>(
+    alloc: Global,
+    written: Written<'a>,
+    level: usize,
+) -> Result<BTreeSet<&'a str>, AllocError> {
+    let mut names = BTreeSet::new(alloc);
+    'marks: for mark in written.marks {
+        if mark.level != level || mark.role != Role::Word {
+            continue 'marks;
+        }
+        if !written.clauses.is_in(mark.token, Clause::Grouping) {
+            continue 'marks;
+        }
+        if let Some(named) = column_at(written.tokens, mark.token) {
+            names.insert(named.name)?;
+        }
+    }
+    Ok(names)
+}
+
+// Whether a SELECT has an aggregate without OVER, those of its derived table aside.
+fn has_group_call(written: Written<'_>, level: usize) -> bool {
+    'marks: for mark in written.marks {
+        if mark.level != level
+            || mark.role != Role::Word
+            || !is_called(written.tokens, mark.token)
+        {
+            continue 'marks;
+        }
+        if written
+            .clauses
+            .pairs
+            .is_group_call(written.tokens, mark.token)
+        {
+            return true;
+        }
+    }
+    false
+}
+
+// Whether a SELECT is grouped.
+fn is_grouped(written: Written<'_>, query: &Query, level: usize) -> bool {
+    if !query.grouping.is_empty() || query.having.is_some() {
+        return true;
+    }
+    has_group_call(written, level)
+}
+
+// The place of the first column that is none of these names.
+fn first_ungrouped(columns: &[SourceColumn], grouped: &BTreeSet<&str>) -> Option<usize> {
+    'columns: for (place, column) in columns.iter().enumerate() {
+        if !grouped.contains(column.name.as_str()) {
+            return Some(place);
+        }
+    }
+    None
+}
+
 impl<'a> Scene<'a> {
     /// The SELECT of a level over the columns of its source.
     pub(crate) fn new(
@@ -181,14 +167,25 @@ impl<'a> Scene<'a> {
     ) -> Result<Scene<'a>, AllocError> {
         let outputs = Outputs::new(alloc, columns, query.items.as_slice())?;
         let entries = entries_of(alloc, written.tokens, written.marks, level)?;
+        let grouped = grouped_of(alloc, written, level)?;
+        let is_grouped = is_grouped(written, query, level);
+        let ungrouped = if is_grouped {
+            first_ungrouped(columns, &grouped)
+        } else {
+            None
+        };
         Ok(Scene {
             schema: written.schema,
             tokens: written.tokens,
             marks: written.marks,
+            clauses: written.clauses,
+            is_grouped,
+            ungrouped,
             query,
             columns,
             outputs,
             entries,
+            grouped,
             level,
         })
     }
@@ -245,6 +242,44 @@ impl<'a> Scene<'a> {
         };
         match self.tokens.get(begin.token..end.token) {
             Some(key) => key.iter().filter(|token| !is_parenthesis(token)).count() == 1,
+            None => false,
+        }
+    }
+
+    /// Whether a column stands for an item of its name: it is a key of ORDER BY by itself.
+    pub(crate) fn is_output(&self, number: usize, named: &Named<'_>) -> bool {
+        named.qualifier.is_none() && self.outputs.has(named.name) && self.is_key(number)
+    }
+
+    /// Whether a column of this name is in GROUP BY. Where no name means two columns, one name is one column.
+    pub(crate) fn groups_by(&self, name: &str) -> bool {
+        self.grouped.contains(name)
+    }
+
+    /// What the function at a token is given, or GROUPING.
+    pub(crate) fn given(&self, token: usize) -> Given {
+        self.clauses.pairs.given(self.tokens, token)
+    }
+
+    /// Whether the function at a token has FILTER.
+    pub(crate) fn has_filter(&self, token: usize) -> bool {
+        self.clauses.pairs.has_filter(self.tokens, token)
+    }
+
+    /// Whether the function at a token has OVER.
+    pub(crate) fn has_over(&self, token: usize) -> bool {
+        self.clauses.pairs.has_over(self.tokens, token)
+    }
+
+    /// Whether the function at a token is an aggregate without OVER.
+    pub(crate) fn is_group_call(&self, token: usize) -> bool {
+        self.clauses.pairs.is_group_call(self.tokens, token)
+    }
+
+    /// Whether a token is of this SELECT, and of none in it or around it.
+    pub(crate) fn has_token(&self, token: usize) -> bool {
+        match self.clauses.standing(token) {
+            Some(standing) => standing.level == self.level,
             None => false,
         }
     }

@@ -1,0 +1,106 @@
+//! The calls in a query that break a rule: Q13, Q15, Q16 and Q18.
+
+use crate::notes::{Breach, Told};
+use crate::scene::Scene;
+use wclauses::{Clause, Given, function_at, is_grouping};
+use wscope::Function;
+
+/// The most columns of GROUPING.
+const MOST_GROUPING_COLUMNS: usize = 31;
+
+/// A function that there is not, or that does not take so many arguments.
+pub(crate) fn wrong_call(scene: &Scene<'_>, number: usize) -> Option<Breach> {
+    let token = scene.function(number)?;
+    let Some(function) = function_at(scene.tokens, token) else {
+        return Some((token, Told::Functions));
+    };
+    match scene.given(token) {
+        Given::Star if matches!(function, Function::Count) => None,
+        Given::Star => Some((token, Told::Star)),
+        Given::Listed(count) if function.takes(count) => None,
+        Given::Listed(_) => Some((token, Told::Takes(token, function))),
+    }
+}
+
+// Whether a token is GROUPING of columns in this SELECT.
+fn is_own_grouping(scene: &Scene<'_>, token: usize) -> bool {
+    is_grouping(scene.tokens, token) && scene.has_token(token)
+}
+
+/// GROUPING of more columns than it takes.
+pub(crate) fn long_grouping(scene: &Scene<'_>, token: usize) -> Option<Breach> {
+    if !is_own_grouping(scene, token) {
+        return None;
+    }
+    match scene.given(token) {
+        Given::Listed(count) if count > MOST_GROUPING_COLUMNS => Some((token, Told::LongGrouping)),
+        _ => None,
+    }
+}
+
+// Whether no call with OVER may stand where a token does.
+fn bars_windows(scene: &Scene<'_>, token: usize) -> bool {
+    let Some(standing) = scene.clauses.standing(token) else {
+        return false;
+    };
+    match standing.clause {
+        Clause::Condition => true,
+        Clause::Having => true,
+        Clause::Windows => true,
+        _ => standing.is_in_call,
+    }
+}
+
+/// A call with OVER where none may stand, or a window function without OVER.
+pub(crate) fn misplaced_function(scene: &Scene<'_>, number: usize) -> Option<Breach> {
+    let token = scene.function(number)?;
+    let function = function_at(scene.tokens, token)?;
+    let is_right = if scene.has_over(token) {
+        !bars_windows(scene, token)
+    } else {
+        function.is_aggregate()
+    };
+    if is_right {
+        return None;
+    }
+    Some((token, Told::Nothing))
+}
+
+// What is broken by an aggregate without OVER, or GROUPING, where a token stands.
+fn misplaced_at(scene: &Scene<'_>, token: usize) -> Option<Breach> {
+    let standing = scene.clauses.standing(token)?;
+    if standing.clause == Clause::Condition {
+        return Some((token, Told::Condition));
+    }
+    if standing.is_in_aggregate {
+        return Some((token, Told::Nothing));
+    }
+    None
+}
+
+/// An aggregate without OVER in WHERE, or within another one.
+pub(crate) fn misplaced_aggregate(scene: &Scene<'_>, number: usize) -> Option<Breach> {
+    let token = scene.function(number)?;
+    if !scene.is_group_call(token) {
+        return None;
+    }
+    misplaced_at(scene, token)
+}
+
+/// GROUPING in WHERE, or within an aggregate without OVER.
+pub(crate) fn misplaced_grouping(scene: &Scene<'_>, token: usize) -> Option<Breach> {
+    if !is_own_grouping(scene, token) {
+        return None;
+    }
+    misplaced_at(scene, token)
+}
+
+/// A function with FILTER that is no aggregate.
+pub(crate) fn wrong_filter(scene: &Scene<'_>, number: usize) -> Option<Breach> {
+    let token = scene.function(number)?;
+    let function = function_at(scene.tokens, token)?;
+    if function.is_aggregate() || !scene.has_filter(token) {
+        return None;
+    }
+    Some((token, Told::Nothing))
+}

@@ -1,0 +1,40 @@
+//! The columns of a grouped query that are not in GROUP BY: Q17.
+
+use crate::notes::{Breach, Told};
+use crate::scene::Scene;
+use wclauses::{Clause, is_star};
+
+// Whether only columns of GROUP BY may stand where a token does, keys of ORDER BY that are items aside.
+fn wants_grouped(scene: &Scene<'_>, token: usize) -> bool {
+    let Some(standing) = scene.clauses.standing(token) else {
+        return false;
+    };
+    if standing.is_in_grouping {
+        return true;
+    }
+    if !scene.is_grouped || standing.is_in_aggregate {
+        return false;
+    }
+    standing.clause != Clause::Condition
+}
+
+/// A column that is not in GROUP BY, where only those may stand.
+pub(crate) fn ungrouped_column(scene: &Scene<'_>, number: usize) -> Option<Breach> {
+    let named = scene.column(number)?;
+    if scene.groups_by(named.name) || !wants_grouped(scene, named.token) {
+        return None;
+    }
+    if scene.is_output(number, &named) {
+        return None;
+    }
+    Some((named.token, Told::Ungrouped))
+}
+
+/// The item `*` of a grouped SELECT, where it stands for a column that is not in GROUP BY.
+pub(crate) fn ungrouped_star(scene: &Scene<'_>, token: usize) -> Option<Breach> {
+    let place = scene.ungrouped?;
+    if !is_star(scene.tokens, token) || !scene.has_token(token) {
+        return None;
+    }
+    Some((token, Told::UngroupedStar(place)))
+}
