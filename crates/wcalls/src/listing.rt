@@ -93,7 +93,7 @@ fn listed<'b>(alloc: Global, column: &'b Column<'_>) -> Result<ListedColumn<'b>,
     }
 }
 
-/// The values that each of some columns has. Those of a column that keeps values are lent, and take no memory.
+/// The values that each of some columns has. Those of a column that keeps values are lent, and no list is made of them.
 pub fn listed_columns<'b>(
     alloc: Global,
     columns: &[LentColumn<'b>],

@@ -1,6 +1,6 @@
 //! Rows in the order of a window.
 ghost use Rattle.std.specs.Prelude.{◌≡◌, ◌*◌, ◌+◌, ◌-◌, ◌<◌, ◌^◌, true, min, List, All};
-ghost use Rattle.std.specs.Prelude.{OnOk, OnErr, IfOk, IfSome, IsTrue, length, map};
+ghost use Rattle.std.specs.Prelude.{OnOk, OnErr, IfOk, IfSome, IsTrue, Some, length, map, option_map};
 ghost use Rattle.std.specs.Ordering.{on};
 ghost use Rattle.wvalues.specs.declared.key.SortKey.{SortKey};
 ghost use Rattle.wvalues.specs.Meaning.{Meaning};
@@ -332,8 +332,9 @@ fn presorted_codes(
     requires len { length rows.now ≡ length (lists_in keys.now.lists) }
     requires differ { differ ≡ true → TellApart (keys_cmp keys.now.orders.items) (map (key_at (lists_in keys.now.lists)) rows.now)
         rows.now }
-    ensures { IfOk result (λ found. IfSome found (λ codes. TellApart (keys_cmp keys.now.orders.items)
+    ensures apart { IfOk result (λ found. IfSome found (λ codes. TellApart (keys_cmp keys.now.orders.items)
         (map (key_at (lists_in keys.now.lists)) rows.now) codes.items)) }
+    ensures numbers { differ ≡ true → IfOk result (λ found. option_map (λ codes. codes.items) found ≡ Some rows.now) }
 {
     if differ {
         let codes = Vec::from_slice(alloc, rows)?;

@@ -1,5 +1,5 @@
 -- A plain column of rows that calls share, and what feeds an aggregate.
-use Rattle.std.specs.Prelude.{◌≡◌, ◌⊎◌, ℕ, ◌<◌, List, Ok, Option, Result, length, map, slice_index_or}
+use Rattle.std.specs.Prelude.{◌≡◌, ◌⊎◌, ℕ, ◌<◌, List, All, Ok, Option, Some, Result, length, map, slice_index_or}
 use Rattle.std.specs.Option.{ForSome}
 use Rattle.std.specs.Borrow.{Bor}
 use Rattle.wvalues.specs.declared.value.Value.{Value}
@@ -12,6 +12,7 @@ use Rattle.wrows.specs.Columns.{Row, column_of, value_on}
 use Rattle.wrows.specs.Laid.{rows_seen}
 use Rattle.waggregate.specs.Feeding.{fed_by}
 use Rattle.waggregate.specs.Summaries.{AreSummaries}
+use Rattle.waggregate.specs.declared.summaries.Extremes.{Extremes}
 use Rattle.waggregate.specs.declared.summaries.Summaries.{Summaries}
 use Rattle.wgroup.specs.declared.found.Groups as memory
 use Rattle.wgroup.specs.declared.fed.FedAggregate.{FedAggregate}
@@ -27,6 +28,14 @@ IsKnown values known place g = (none : Option Summaries) → place < length know
 -- so it is of each set, by its place
 abbrev pub AreKnown : List Meaning → List memory.Groups → List (Option Summaries) → Type 0
 AreKnown values sets known = (place : ℕ) (none : memory.Groups) → IsKnown values known place (slice_index_or sets place none)
+
+-- just these extremes are looked for, if any are asked for
+abbrev pub LooksFor : Option Extremes → Summaries → Type 0
+LooksFor extremes known = Some known.extremes ≡ extremes
+
+-- so they are in all that is known
+abbrev pub AllLookFor : Option Extremes → List (Option Summaries) → Type 0
+AllLookFor extremes = All (λ known. ForSome known (LooksFor extremes))
 
 -- what is known of the groups of these sets is of what the rows have in the column
 abbrev pub IsShared : List (Bor (List Value)) → List memory.Groups → SharedColumn → Type 0

@@ -5,11 +5,10 @@
 //! - Promises: the groups of a set stand behind those of the sets before it, in the order of their keys, nulls last; rows
 //!   are of one group where they agree on each column of the set, nulls included; the empty set has one group, also where
 //!   there is no row.
-//! - How, which no clause says: groups that are few beside the rows are found by a table. It holds every group that was seen, so
-//!   a key that is not met where it is looked for is new, and no keys make it slow. Others are found by sorting. Those of a set
-//!   that is part of an earlier one are made of its groups, where these are few, and what a call answers of what it answers for
-//!   these. The row of a group whose rows are counted and no more is made of their number. A plain column is read where it lies,
-//!   once for all calls without FILTER that follow each other and read it.
+//! - How, which no clause of these says: groups that are few beside the rows are found by a table, which holds every group that was
+//!   seen, so that a key that is not met where it is looked for is new, and no keys make it slow. Others are found by sorting. Those
+//!   of a set that is part of an earlier one are made of its groups, where these are few. A plain column is read where it lies, once
+//!   for all calls without FILTER that follow each other and read it.
 //! - Asks: at most 2,147,483,647 rows; of `counted_row`, a grouping that counts them and no more.
 //! - Leaves aggregates to `waggregate`, expressions to `wplan` and their values to `weval`.
 //!

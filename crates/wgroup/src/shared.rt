@@ -3,17 +3,18 @@
 //! Calls that follow each other often have one column for their argument, as a sum, a least and a greatest value of it. It is read
 //! where it lies, and what the rows of each group come to is found for all that are fed alike in one pass over the rows. No more than
 //! one column is shared at a time, so that many calls take little more memory than one does.
-ghost use Rattle.std.specs.Prelude.{◌≡◌, ◌<◌, ◌^◌, All, List, IfOk, IsTrue, None, Ok, length};
+ghost use Rattle.std.specs.Prelude.{◌≡◌, ◌<◌, ◌^◌, All, List, IfOk, IsTrue, None, Ok, Some, length};
 ghost use Rattle.std.specs.Option.{ForSome};
 ghost use Rattle.wvalues.specs.Meaning.{Meaning};
 ghost use Rattle.wplan.specs.Formula.{At, formula};
 ghost use Rattle.wplan.specs.Plans.{aggregate_plan};
 ghost use Rattle.wrows.specs.Columns.{Row, column_of};
+ghost use Rattle.waggregate.specs.Alike.{extremes_alike};
 ghost use Rattle.waggregate.specs.Feeding.{rows_of, values_of};
 ghost use Rattle.waggregate.specs.Summaries.{AreSummaries};
 ghost use Rattle.wgroup.specs.Finer.{AreMade};
 ghost use Rattle.wgroup.specs.Held.{row_numbers};
-ghost use Rattle.wgroup.specs.Shared.{AreKnown, Feeds, IsShared};
+ghost use Rattle.wgroup.specs.Shared.{AllLookFor, AreKnown, Feeds, IsShared, LooksFor};
 
 use crate::fed::GroupedRows;
 use crate::found::Groups;
@@ -62,7 +63,9 @@ fn set_summaries<'a>(
     requires below { groups.now.finer ≡ None → All (λ i. i < groups.now.count) groups.now.numbers.value.items }
     requires len { length groups.now.numbers.value.items ≡ rows_of argument }
     requires few { rows_of argument < 2 ^ 31 }
-    ensures { IfOk result (λ known. ForSome known (AreSummaries (values_of argument.entry) (row_numbers groups.now) groups.now.count)) }
+    ensures known { IfOk result (λ known. ForSome known (AreSummaries (values_of argument.entry) (row_numbers groups.now)
+        groups.now.count)) }
+    ensures asked { IfOk result (λ known. ForSome known (LooksFor (Some extremes))) }
 {
     match &groups.finer {
         None if groups.count <= argument.rows() / ROWS_OF_GROUP => {
@@ -83,7 +86,8 @@ fn summaries_of<'a>(
     requires made { AreMade sets.now }
     requires len { All (λ groups. length groups.numbers.value.items ≡ rows_of argument) sets.now }
     requires few { rows_of argument < 2 ^ 31 }
-    ensures { IfOk result (λ summaries. AreKnown (values_of argument.entry) sets.now summaries.items) }
+    ensures known { IfOk result (λ summaries. AreKnown (values_of argument.entry) sets.now summaries.items) }
+    ensures asked { IfOk result (λ summaries. AllLookFor extremes summaries.items) }
 {
     let mut summaries = Vec::new(alloc);
     let Some(extremes) = extremes else {
@@ -103,7 +107,8 @@ fn column_at<'a>(
     grouped: &GroupedRows<'a>,
 ) -> Result<SharedColumn<'a>, AllocError>
     requires { AreMade grouped.now.sets.now }
-    ensures { IfOk result (IsShared grouped.now.rows.now grouped.now.sets.now) }
+    ensures shared { IfOk result (IsShared grouped.now.rows.now grouped.now.sets.now) }
+    ensures asked { IfOk result (λ column. AllLookFor (extremes_alike place calls.now) column.summaries.items) }
 {
     let argument = Argument::Column(grouped.rows, place);
     let extremes = extremes_of(calls, place);

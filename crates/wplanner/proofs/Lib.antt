@@ -8,3 +8,4 @@ mod BesideFacts
 mod CountedFacts
 mod LeadingFacts
 mod Worked
+mod TakenFacts

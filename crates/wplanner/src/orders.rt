@@ -9,7 +9,7 @@ ghost use Rattle.wrows.specs.Laid.{rows_seen};
 ghost use Rattle.wrows.specs.Outcomes.{Gives};
 ghost use Rattle.wcalls.specs.Ordered.{ordered_rows};
 ghost use Rattle.wplanner.specs.KeptOrders.{AreOrdersOf, serves, with_shared};
-ghost use Rattle.wtable.specs.TableOrders.{ArePresortedOf};
+ghost use Rattle.wtable.specs.TableOrders.{ArePresortedOf, presorts};
 
 use std::alloc::{AllocError, Global};
 use waggregate::Tally;
@@ -50,7 +50,7 @@ fn take_shared<'a>(
     ensures order { (rows : List Row) → AreOrdersOf rows kept.old.items
         → IfSome result (λ order. ordered_rows rows (window_plan window.now) ≡ Ok order) }
     ensures others { (rows : List Row) → AreOrdersOf rows kept.old.items → AreOrdersOf rows kept.new.items }
-    ensures fewer { length kept.new.items ≤ length kept.old.items }
+    ensures fewer { length kept.new.items + (if list_any (serves window.now) kept.old.items then 1 else 0) ≡ length kept.old.items }
 {
     match place_shared(kept.as_slice(), window) {
         None => None,
@@ -73,6 +73,8 @@ fn new_order<'a>(
     requires { ArePresortedOf (rows_seen rows.now) presorted.old.items }
     ensures order { Gives (λ order. order) result (ordered_rows (rows_seen rows.now) (window_plan window.now)) }
     ensures others { ArePresortedOf (rows_seen rows.now) presorted.new.items }
+    ensures taken { length presorted.new.items + (if list_any (presorts window.now) presorted.old.items then 1 else 0)
+        ≡ length presorted.old.items }
     ensures made { made.new ≤ made.old + 1 }
 {
     match take_presorted(presorted, window) {
@@ -96,7 +98,7 @@ pub(crate) fn order_of<'a>(
     ensures order { Gives (λ order. order) result (ordered_rows (rows_seen rows.now) (window_plan window.now)) }
     ensures others { AreOrdersOf (rows_seen rows.now) kept.new.items }
     ensures presorted { ArePresortedOf (rows_seen rows.now) presorted.new.items }
-    ensures fewer { length kept.new.items ≤ length kept.old.items }
+    ensures fewer { length kept.new.items + (if list_any (serves window.now) kept.old.items then 1 else 0) ≡ length kept.old.items }
     ensures made { made.new ≤ made.old + (if list_any (serves window.now) kept.old.items then 0 else 1) }
 {
     match take_shared(kept, window) {

@@ -65,8 +65,8 @@ fn answers_over<'a>(
         (functions_over (map call_plan calls.now) number) (rows_seen rows.now)) }
     ensures kept { AreOrdersOf (rows_seen rows.now) kept.new.items }
     ensures presorted { ArePresortedOf (rows_seen rows.now) presorted.new.items }
-    ensures let_go { OnOk result (length kept.new.items ≤ length kept.old.items
-        + (if list_any (is_same_order window.entry.now) later.now then 1 else 0)) }
+    ensures let_go { OnOk result (length kept.new.items + (if list_any (serves window.entry.now) kept.old.items then 1 else 0)
+        ≡ length kept.old.items + (if list_any (is_same_order window.entry.now) later.now then 1 else 0)) }
     ensures made { work.new.orders ≤ work.old.orders + (if list_any (serves window.entry.now) kept.old.items then 0 else 1) }
     ensures joins { work.new.joins ≤ work.old.joins + most_of_functions
         (frame_of (window_plan window.entry.now).frame).exclusion (length rows.now) (functions_over (map call_plan calls.now) number) }

@@ -37,5 +37,5 @@ returns c =
       value_codes = subst (λ l. IfSome c.in_ok-value_codes.value_codes (λ codes. TellApart (keys_cmp vo) (map (key_at V) l)
           codes.items)) c.deref-2.ensures.value c.in_ok-value_codes.ensures;
       key_codes = subst (λ l. IfSome c.in_ok-key_codes.key_codes (λ codes. TellApart (keys_cmp ko) (map (key_at K) l)
-          codes.items)) c.deref.ensures.value c.in_ok-key_codes.ensures;
+          codes.items)) c.deref.ensures.value c.in_ok-key_codes.ensures.apart;
     }
