@@ -1,5 +1,5 @@
 //! Reads an input to its end, and answers each of its queries as soon as it is whole.
-ghost use Rattle.std.specs.Prelude.{◌≡◌, ◌-◌, ◌<◌, ◌≤◌, ◌∷◌, ℕ, List, [], length, take, IfErr, IfOk, IfSome, MatchBool, OnErr, OnOk};
+ghost use Rattle.std.specs.Prelude.{◌≡◌, ◌+◌, ◌-◌, ◌<◌, ◌≤◌, ◌∷◌, ℕ, List, [], length, take, IfErr, IfOk, IfSome, MatchBool, OnErr, OnOk};
 ghost use Rattle.std.specs.Io.KnownBytes.{Appends, Consumes, IsAtEnd, Keeps};
 ghost use Rattle.wlines.specs.Pending.{IsNew, IsSound, IsSoundWriter, ReadFailed, most_reads};
 ghost use Rattle.wshell.specs.Splitting.{EndsAt};
@@ -113,6 +113,7 @@ fn read_block<R: Read>(input: &mut Counted<R>, block: &mut [u8]) -> Result<usize
         (take count block.new) × (count ≤ length block.new)) }
     ensures end { IfOk result (λ count. count ≡ 0 → IsAtEnd (R.remaining input.new.inner)) }
     ensures sound { OnOk result (IsSound input.new) }
+    ensures once { OnOk result (input.new.reads ≡ input.old.reads + 1) }
     ensures falls { OnOk result (most_reads - input.new.reads < most_reads - input.old.reads) }
     ensures kept { OnErr result (Keeps (R.remaining input.old.inner) (R.remaining input.new.inner)) }
     ensures fault { IfErr result (λ fault. fault ≡ ShellFault.Read) }

@@ -6,7 +6,8 @@
 //! - Promises: what `run` has written is what the script's commands are answered, each by what its node was told
 //!   before it, itself, by its stream or through slots; at a fault it is a beginning of that. Before the reader is
 //!   asked for more, all commands that it gave are answered and the replies written (`step`). Nodes that know the same
-//!   answer the same (`laws`). A node is what it knows, and a refused command changes nothing.
+//!   answer the same (`laws`). A refused command changes nothing of what a node knows; a piece that no messages
+//!   begin with ends the stream of its node as a bad one.
 //! - Asks: of `run`, a reader and a writer that have counted nothing yet; of `take_judged`, bytes that were judged by the node's
 //!   declaration.
 //! - Leaves segments to `wsegment`, names to `wset`, files to `wexchange`, streams to `wstream`, and reading commands to

@@ -126,7 +126,7 @@ impl Node {
         self.set.schema()
     }
 
-    /// Takes a segment, as `SegmentSet::take` does. One that is live with these bytes needs no memory.
+    /// Takes a segment, as `SegmentSet::take` does. One that is live with these bytes needs no memory, nor do bytes that are too long.
     #[tactic(auto, using(crate::proofs::Lacking::err_needs, crate::proofs::Lacking::on_err_needs))]
     pub fn take(&mut self, name: Name, bytes: &[u8]) -> Result<Taken, TakeError>
         ensures word { IfOk result (λ word. word ≡ taken_word (known_in self.old.view name) bytes.now) }
@@ -135,6 +135,7 @@ impl Node {
         ensures refused { IfErr result (λ fault. Fails fault (rows_of self.old.schema bytes.now)) }
         ensures err { OnErr result (self.new ≡ self.old) }
         ensures lacks { OnErr result (MayNeedMemory self.old.view (SegmentItem name bytes.now)) }
+        ensures long { 67108864 < length bytes.now → result ≡ Err SegmentFault.TooLong }
     {
         self.set.take(name, bytes)
     }
@@ -257,7 +258,7 @@ impl Node {
         }
     }
 
-    /// Each name that is not unknown, in the order of names.
+    /// Each floor, and each name above it that is not unknown, in the order of names.
     pub fn list(&self) -> Result<Vec<Listed>, AllocError>
         ensures { IfOk result (λ all. all.items ≡ list_map (listed self.now.schema) (map.entries self.now.view)) }
     {
