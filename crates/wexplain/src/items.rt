@@ -31,6 +31,11 @@ fn body_length(form: &Form) -> Option<u32>
     }
 }
 
+// Whether the body of a line is longer than a segment may be.
+fn has_long_body(form: &Form) -> bool {
+    body_length(form).is_some_and(|len| len > MOST_BYTES)
+}
+
 // The body behind a line, or what stands where its line feed is missing.
 fn with_body<'a>(form: Form, len: u32, rest: &'a [u8]) -> Result<Item<'a>, &'a [u8]>
     ensures form { IfOk result (λ item. item.form ≡ form) }
@@ -58,6 +63,9 @@ pub(crate) fn cut_item(bytes: &[u8]) -> Result<Item<'_>, &[u8]>
     let Some(form) = read_form(line) else {
         return Err(bytes);
     };
+    if has_long_body(&form) {
+        return Err(bytes);
+    }
     match body_length(&form) {
         Some(len) => with_body(form, len, rest),
         None => Ok(Item {

@@ -9,8 +9,8 @@ use Rattle.std.specs.Str.Lossy.{utf8_lossy}
 
 -- a terminal shows nothing for these characters, or turns what stands beside them
 abbrev pub is_hidden : ℕ → Bool
-is_hidden c = is_in_range 0xAD 0xAD c || is_in_range 0x200B 0x200F c || is_in_range 0x2028 0x202E c || is_in_range 0x2060
-    0x206F c || is_in_range 0xFEFF 0xFEFF c
+is_hidden c = is_in_range 0xAD 0xAD c || is_in_range 0x61C 0x61C c || is_in_range 0x180E 0x180E c || is_in_range 0x200B 0x200F c
+    || is_in_range 0x2028 0x202E c || is_in_range 0x2060 0x206F c || is_in_range 0xFEFF 0xFEFF c || is_in_range 0xE0000 0xE007F c
 
 -- a character, or its number where a terminal would obey or hide it
 abbrev pub shown_character : ℕ → List ℕ

@@ -19,10 +19,13 @@ fn is_hidden(c: char) -> bool
 {
     match c {
         '\u{ad}' => true,
+        '\u{61c}' => true,
+        '\u{180e}' => true,
         '\u{200b}'..='\u{200f}' => true,
         '\u{2028}'..='\u{202e}' => true,
         '\u{2060}'..='\u{206f}' => true,
         '\u{feff}' => true,
+        '\u{e0000}'..='\u{e007f}' => true,
         _ => false,
     }
 }
