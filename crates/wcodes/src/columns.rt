@@ -76,9 +76,9 @@ fn near_base(column: &[&Value], key: &SortKey) -> Whole {
     Whole::from(0)
 }
 
-/// Codes for the values of a column of numbers, and none where the first value that is not null is a text. They tell values apart,
-/// and are not close to each other as those of [`column_codes`] are: where the numbers lie within 2^31 of the first of them, each
-/// is looked at once.
+/// Codes for the values of a column of numbers, and none where the first value that is not null is a text. They stand as those of
+/// [`column_codes`] do, but need not begin near 0: where the numbers lie within 2^31 of the first of them, they are counted from
+/// there, and each value is looked at once.
 #[tactic(auto, using(crate::proofs::CodeFacts::from_base))]
 pub fn number_codes(
     alloc: Global,

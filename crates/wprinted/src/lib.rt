@@ -2,7 +2,8 @@
 //!
 //! - Gives the header line of output names and one line for each row, of the values at some places of it, and of no others. A row
 //!   may have behind its cells what some columns have for it, however they are kept.
-//! - Promises: the text is the lines of its names and rows, whatever they hold. Values and counts are read where they lie.
+//! - Promises: the text is the lines of its names and rows, whatever they hold. That values and counts are read where they lie, no
+//!   clause says.
 //! - Asks: nothing. A value that is not there, as a row has no such place, is a null.
 //! - Leaves which rows and places these are to `wplanner`.
 //!

@@ -96,7 +96,8 @@ impl Judged {
         })
     }
 
-    /// A declaration by which the bytes are these rows, of as many columns: the one that they were read by.
+    /// A declaration by which the bytes are these rows, with as many columns as the segment has. It is the one that they were judged
+    /// by, which no clause says.
     pub fn schema(&self) -> &Schema
         ensures rows { rows_of result.now self.now.bytes ≡ Ok self.now.rows }
         ensures columns { self.now.columns ≡ length result.now.columns }

@@ -6,8 +6,8 @@
 //!   rows that stand for all.
 //! - Promises: rows stand by name and then by place, and stay where they lie. WHERE is evaluated on every row, so one on
 //!   which it is out of range refuses. What an order of all rows gives of the kept ones is the one that sorting them
-//!   gives; where an order says that no two rows share the keys of its window, none of the kept ones do. Runs that are
-//!   missing are made, and nothing else of a set changes.
+//!   gives; where an order says that no two rows share the keys of its window, none of the kept ones do. What a set knows
+//!   stays as it is; runs, cells and kept orders may be made, and let go.
 //! - Asks: nothing of the rows; of `take_presorted`, whose order it takes out, that each order is one of these rows.
 //! - Leaves runs to `wruns` and `wset`, single rows to `wrows`, windows to `wcalls`, and answers to `wplanner`.
 //!
