@@ -1,11 +1,12 @@
 -- What is noted of calls.
 use Rattle.std.specs.Prelude.{ℕ, Bool, List, [], ◌∷◌, ◌++◌, ◌==◌, true, false, cond, if◌then◌else◌, None, Some, slice_index}
-use Rattle.wfolder.specs.Call.{Call, Rights, Locked, Found, Listed, Created, Permitted, Wrote, Synced, Moved, SyncedFolder, Removed, Began, Taken}
+use Rattle.wfolder.specs.Call.{Call, Rights, Locked, Checked, Found, Listed, Created, Permitted}
+use Rattle.wfolder.specs.Call.{Wrote, Synced, Moved, SyncedFolder, Removed, Began, Taken}
 
 -- a call as it is noted: its number, and 1 where it was done
 abbrev pub call_of : ℕ → Bool → List ℕ → List ℕ → Call
 call_of n done name bytes =
-    if n == 0 then Locked done
+    if n == 0 then Locked name done
     else if n == 1 then Found name (cond done (Some bytes) None)
     else if n == 2 then Created name false done
     else if n == 3 then Created name true done
@@ -34,10 +35,12 @@ name_on name cs = cs
 abbrev pub rights_in : List ℕ → Rights
 rights_in numbers = record { owner = slice_index numbers 3; group = slice_index numbers 4; mode = slice_index numbers 5 }
 
--- the calls with what is noted: by the third number what a read gave, a name that was listed, that an access was given, or another call
+-- the calls with what is noted: by the third number what a read gave, a name that was listed, that an access was given, what a look at a
+-- file that may be replaced found, or another call
 abbrev pub noted : List ℕ → List ℕ → List ℕ → List Call → List Call
 noted numbers name bytes cs =
     if slice_index numbers 2 == 1 then read_on bytes cs
     else if slice_index numbers 2 == 2 then name_on name cs
     else if slice_index numbers 2 == 3 then Permitted name (rights_in numbers) (slice_index numbers 1 == 1) ∷ cs
+    else if slice_index numbers 2 == 4 then Checked name (cond (slice_index numbers 1 == 1) (Some (rights_in numbers)) None) ∷ cs
     else call_of (slice_index numbers 0) (slice_index numbers 1 == 1) name bytes ∷ cs

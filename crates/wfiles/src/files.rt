@@ -1,9 +1,11 @@
 //! Files, read whole, or as far as they are not too long.
 ghost use Rattle.std.specs.Prelude.{◌≡◌, ◌≢◌, ◌↔◌, ◌+◌, ◌≤◌, ◌∷◌, None, Some, IfOk, IfErr, IfSome, IsTrue, OnOk, OnErr};
-ghost use Rattle.std.specs.Prelude.{length, option_map};
+ghost use Rattle.std.specs.Prelude.{[], length, map, option_map, string_bytes};
 ghost use Rattle.std.specs.Io.KnownBytes.{Consumes, IsAtEnd};
 ghost use Rattle.wfolder.specs.Call.{Found};
 ghost use Rattle.wfolder.specs.Calls.{HasCause, NothingFailed};
+ghost use Rattle.wfolder.specs.Names.{IsNewName};
+ghost use Rattle.wfiles.specs.Listing.{FindsNew, IsOneOf, Keeps, ListsNew, names_in};
 ghost use Rattle.wfiles.specs.Reading.{IsOver, MayBegin, ReadsAtMost, ReadsMore, TakesBytes};
 
 use crate::reading::Reading;
@@ -152,17 +154,61 @@ pub fn read_at_most<R: Files<File = File> + AllocGlobal>(
     }
 }
 
-// Those of the names that begin as the names of new files do. Each ends in a zero byte.
-fn new_names(alloc: Global, names: &[u8]) -> Result<Vec<String>, AllocError> {
-    let mut found = Vec::new(alloc);
-    'names: for name in names.split(|byte| *byte == 0) {
-        if let Ok(text) = str::from_utf8(name) {
-            if text.starts_with(".wstore-") {
-                found.push(String::from_str(alloc, text)?)?;
-            }
+// Adds a name to those that were found, if it begins as the names of new files do.
+fn push_new(alloc: Global, found: &mut Vec<String>, name: &[u8]) -> Result<(), AllocError>
+    ensures kept { OnOk result (Keeps (map string_bytes found.old.items) (map string_bytes found.new.items)) }
+    ensures pushed { OnOk result (IsNewName name.now → IsOneOf name.now (map string_bytes found.new.items)) }
+{
+    if name.strip_prefix(b".wstore-").is_none() {
+        return Ok(());
+    }
+    match str::from_utf8(name) {
+        Ok(text) => {
+            found.push(String::from_str(alloc, text)?)?;
+            Ok(())
         }
+        Err(_) => Ok(()),
+    }
+}
+
+// Those of the names that begin as the names of new files do. Each ends in a zero byte.
+fn new_names(alloc: Global, names: &[u8]) -> Result<Vec<String>, AllocError>
+    ensures finds { IfOk result (λ found. FindsNew (names_in [] names.now) (map string_bytes found.items)) }
+{
+    let mut found = Vec::new(alloc);
+    let mut name = Vec::new(alloc);
+    'bytes: for byte in names.iter() {
+        if *byte != 0 {
+            if let Err(error) = name.push(*byte) {
+                return Err(error.into());
+            }
+            continue;
+        }
+        if let Err(error) = push_new(alloc, &mut found, name.as_slice()) {
+            return Err(error);
+        }
+        name.clear();
     }
     Ok(found)
+}
+
+// The names that begin as those of new files do, of all that a reading of a folder's names has left.
+fn list_names<R, T: Read>(
+    alloc: Global,
+    system: &mut System<'_, R>,
+    reading: &mut Reading<T>,
+) -> Result<Vec<String>, Fault>
+    requires { NothingFailed system.old }
+    ensures listed { IfOk result (λ names. ListsNew (T.remaining reading.old.reader) (T.remaining reading.new.reader)
+        (map string_bytes names.items)) }
+    ensures kind { IfErr result (λ fault. fault ≢ Fault.Write) }
+    ensures sound { OnOk result (NothingFailed system.new) }
+    ensures cause { IfErr result (λ fault. HasCause fault system.new) }
+{
+    match read_rest(alloc, system, reading, None) {
+        Ok(names) => system.grown(new_names(alloc, names.as_slice())),
+        Err(fault) => Err(fault),
+    }
 }
 
 /// The names of a folder's files that begin as those of new files do.
@@ -178,6 +224,5 @@ pub(crate) fn read_names<R: Files<File = File> + AllocGlobal>(
 {
     let folder = system.names(path)?;
     let mut reading = Reading::begun(folder, Record::new(), path);
-    let names = read_rest(alloc, system, &mut reading, None)?;
-    system.grown(new_names(alloc, names.as_slice()))
+    list_names(alloc, system, &mut reading)
 }

@@ -10,7 +10,7 @@
 //! - Leaves what the bytes mean to the program. What a real file holds, and which one a path leads to, no clause can say: each
 //!   method of `real.rt`, of `Reading` and of `Place` notes the call that it makes, and its answer.
 //!
-//! Read `specs/Noting.antt`, `specs/Reading.antt` and `specs/Place.antt`, and those of `wfolder` first.
+//! Read `specs/Noting.antt`, `specs/Reading.antt`, `specs/Listing.antt` and `specs/Place.antt`, and those of `wfolder` first.
 #![tactic(auto)]
 
 mod files;

@@ -1,12 +1,11 @@
 //! Where a store stands, and how it is replaced there.
-ghost use Rattle.std.specs.Prelude.{◌≡◌, ◌∷◌, true, IfErr, IfOk, OnErr, OnOk, is_ok, option_map};
-ghost use Rattle.wfolder.specs.Call.{Found, Locked};
+ghost use Rattle.std.specs.Prelude.{◌≡◌, ◌⊎◌, ◌∷◌, true, false, IfErr, IfOk, OnErr, OnOk, option_map};
+ghost use Rattle.wfolder.specs.Call.{Checked, Locked, rights_of};
 ghost use Rattle.wfolder.specs.Calls.{HasCause, NothingFailed};
 ghost use Rattle.wfolder.specs.Model.{IsLocked};
-ghost use Rattle.wfiles.specs.Reading.{MayBegin};
 ghost use Rattle.wfolder.specs.Names.{IsSited};
 ghost use Rattle.wfolder.specs.Replacing.{Replaces, fault_of};
-ghost use Rattle.wfiles.specs.Place.{MissesLock, place_path, place_site};
+ghost use Rattle.wfiles.specs.Place.{MissesFile, MissesLock, place_path, place_site, read_at};
 
 use crate::files::read_if_there;
 use crate::real::RealFolder;
@@ -16,7 +15,7 @@ use std::alloc::Global;
 use std::fs::File;
 use std::mem;
 use std::rt::{Clock, Files};
-use wfolder::{Fault, NotReplaced, Target, replace};
+use wfolder::{Access, Fault, NotReplaced, Target, replace};
 
 /// A file that may be replaced: a plain one that may be written, found behind the links to it, or none yet. While this
 /// stands no other such program replaces a file of its folder.
@@ -60,20 +59,46 @@ fn path_behind<R: Files<File = File> + AllocGlobal>(
     system.grown(String::from_str(alloc, path))
 }
 
-// Takes the lock of a folder, and notes whether this run has it.
-fn lock_folder<R: Clock + Eprint>(
+// Opens the folder under a path and takes its lock, and notes under this path whether this run has it.
+fn lock_folder<R: Files<File = File> + AllocGlobal + Clock + Eprint>(
     system: &mut System<'_, R>,
     calls: &mut Record,
-    folder: &File,
-) -> Result<(), Fault>
+    path: &str,
+) -> Result<File, Fault>
     requires { NothingFailed system.old }
-    ensures noted { calls.new.calls ≡ Locked (is_ok result) ∷ calls.old.calls }
+    ensures locked { OnOk result (calls.new.calls ≡ Locked path.now true ∷ calls.old.calls) }
+    ensures missed { OnErr result ((calls.new.calls ≡ calls.old.calls) ⊎ (calls.new.calls ≡ Locked path.now false ∷ calls.old.calls)) }
     ensures sound { OnOk result (NothingFailed system.new) }
     ensures cause { IfErr result (λ fault. HasCause fault system.new) }
 {
-    let locked = system.lock(folder);
-    calls.note_call(LOCKED, locked.is_ok(), &[], &[]);
-    locked
+    let folder = system.folder(path)?;
+    let locked = system.lock(&folder);
+    calls.note_call(LOCKED, locked.is_ok(), path.as_bytes(), &[]);
+    match locked {
+        Ok(()) => Ok(folder),
+        Err(fault) => Err(fault),
+    }
+}
+
+// Looks at what stands under a path, and notes who may read and write it, if it may be replaced.
+fn check<R: Files<File = File> + AllocGlobal>(
+    system: &mut System<'_, R>,
+    calls: &mut Record,
+    path: &str,
+) -> Result<Option<Access>, Fault>
+    requires { NothingFailed system.old }
+    ensures checked { IfOk result (λ found. calls.new.calls ≡ Checked path.now (option_map rights_of found) ∷ calls.old.calls) }
+    ensures unchecked { OnErr result (calls.new.calls ≡ calls.old.calls) }
+    ensures sound { OnOk result (NothingFailed system.new) }
+    ensures cause { IfErr result (λ fault. HasCause fault system.new) }
+{
+    match system.replaceable(path) {
+        Ok(found) => {
+            calls.note_check(path.as_bytes(), &found);
+            Ok(found)
+        }
+        Err(fault) => Err(fault),
+    }
 }
 
 // Where the file of a path stands, if it is a plain one or none yet, and no later run would take it for what a killed one has left.
@@ -108,16 +133,17 @@ impl Place {
         path: &str,
     ) -> Result<Place, Fault>
         requires { NothingFailed system.old }
-        ensures locked { OnOk result (calls.new.calls ≡ Locked true ∷ calls.old.calls) }
+        ensures locked { IfOk result (λ place. calls.new.calls ≡ Locked (place_site place).folder true ∷ calls.old.calls) }
         ensures sited { IfOk result (λ place. IsSited (place_site place)) }
         ensures missed { OnErr result (MissesLock calls.old.calls calls.new.calls) }
         ensures sound { OnOk result (NothingFailed system.new) }
         ensures cause { IfErr result (λ fault. HasCause fault system.new) }
     {
         let target = target_of(alloc, system, path)?;
-        let folder = system.folder(target.folder())?;
-        lock_folder(system, calls, &folder)?;
-        Ok(Place { target, folder })
+        match lock_folder(system, calls, target.folder()) {
+            Ok(folder) => Ok(Place { target, folder }),
+            Err(fault) => Err(fault),
+        }
     }
 
     /// The path of the file, behind the links to it.
@@ -138,13 +164,15 @@ impl Place {
     ) -> Result<Option<Vec<u8>>, Fault>
         requires { NothingFailed system.old }
         ensures path { place_path self.new ≡ place_path self.old }
-        ensures found { IfOk result (λ held. calls.new.calls ≡ Found (place_path self.new)
-            (option_map (λ bytes. bytes.items) held) ∷ calls.old.calls) }
-        ensures begun { OnErr result (MayBegin (place_path self.new) calls.old.calls calls.new.calls) }
+        ensures folder { (place_site self.new).folder ≡ (place_site self.old).folder }
+        ensures sited { IsSited (place_site self.new) }
+        ensures found { IfOk result (λ held. calls.new.calls ≡ read_at (place_site self.new) (option_map (λ bytes. bytes.items) held)
+            calls.old.calls) }
+        ensures begun { OnErr result (MissesFile (place_site self.new) calls.old.calls calls.new.calls) }
         ensures sound { OnOk result (NothingFailed system.new) }
         ensures cause { IfErr result (λ fault. HasCause fault system.new) }
     {
-        match system.replaceable(self.target.path()) {
+        match check(system, calls, self.target.path()) {
             Ok(access) => {
                 self.target.set_access(access);
                 read_if_there(alloc, system, calls, self.target.path())
@@ -163,7 +191,7 @@ impl Place {
         bytes: &[u8],
     ) -> Result<(), NotReplaced>
         requires sound { NothingFailed system.old }
-        requires locked { IsLocked calls.old.calls }
+        requires locked { IsLocked (place_site self.now).folder calls.old.calls }
         ensures replaces { Replaces (place_site self.now) bytes.now result calls.old.calls calls.new.calls }
         ensures sound { OnOk result (NothingFailed system.new) }
         ensures cause { IfErr result (λ fault. HasCause (fault_of fault) system.new) }

@@ -1,7 +1,7 @@
 //! The calls that were made on files and folders, in a list that only clauses read.
-ghost use Rattle.std.specs.Prelude.{◌≡◌, List, [], ◌∷◌, Some, map, string_bytes};
+ghost use Rattle.std.specs.Prelude.{◌≡◌, List, [], ◌∷◌, Some, map, option_map, string_bytes};
 ghost use Rattle.std.specs.Borrow.{ftrue};
-ghost use Rattle.wfolder.specs.Call.{Call, Created, Listed, Permitted, Taken, rights_of};
+ghost use Rattle.wfolder.specs.Call.{Call, Checked, Created, Listed, Permitted, Taken, rights_of};
 ghost use Rattle.wfiles.specs.Noting.{call_of, noted, read_on};
 
 use std::marker::{Model, PhantomData};
@@ -42,7 +42,7 @@ const UNDONE: u64 = 0;
 
 const DONE: u64 = 1;
 
-// The third number: a call by its number, what a read gave, a name that was listed, or an access.
+// The third number: a call by its number, what a read gave, a name that was listed, an access that was given, or one that was found.
 const CALL: u64 = 0;
 
 const BYTES: u64 = 1;
@@ -50,6 +50,8 @@ const BYTES: u64 = 1;
 const NAME: u64 = 2;
 
 const ACCESS: u64 = 3;
+
+const CHECK: u64 = 4;
 
 /// The calls that read files, and those on the folder of a store, the newest first. It takes no room: only clauses read it, and only
 /// this crate adds to it.
@@ -115,6 +117,21 @@ impl Record {
             self.note(&[UNNUMBERED, DONE, ACCESS, owner, group, mode], path, &[]);
         } else {
             self.note(&[UNNUMBERED, UNDONE, ACCESS, owner, group, mode], path, &[]);
+        }
+    }
+
+    /// Notes that what stands under a path was looked at and may be replaced: a file of this access, or none.
+    pub(crate) fn note_check(&mut self, path: &[u8], found: &Option<Access>)
+        ensures { self.new.calls ≡ Checked path.now (option_map rights_of found.now) ∷ self.old.calls }
+    {
+        match found {
+            Some(access) => {
+                let owner = u64::from(access.owner);
+                let group = u64::from(access.group);
+                let mode = u64::from(access.permissions.mode());
+                self.note(&[UNNUMBERED, DONE, CHECK, owner, group, mode], path, &[]);
+            }
+            None => self.note(&[UNNUMBERED, UNDONE, CHECK], path, &[]),
         }
     }
 

@@ -21,13 +21,13 @@ pub struct Simulated<'a> {
 }
 
 impl<'a> Simulated<'a> {
-    /// A folder that holds this, whose lock is held, and whose machine stops behind so many calls.
-    pub fn new(disk: Disk, calls_left: usize) -> Simulated<'a>
+    /// A folder that holds this, under a path, whose lock is held, and whose machine stops behind so many calls.
+    pub fn new(disk: Disk, path: &str, calls_left: usize) -> Simulated<'a>
         ensures sound { NothingFailed result.system }
-        ensures locked { IsLocked result.trace.calls }
+        ensures locked { IsLocked path.now result.trace.calls }
     {
         let mut trace = Record::new();
-        trace.note_call(LOCKED, true, &[], &[]);
+        trace.note_call(LOCKED, true, path.as_bytes(), &[]);
         Simulated {
             system: System::new(&()),
             trace,

@@ -1,5 +1,5 @@
 //! The calls that the program makes on files and streams, with a count of those that failed and of refused growths.
-ghost use Rattle.std.specs.Prelude.{◌≡◌, ◌≢◌, ◌+◌, ◌≤◌, ◌↔◌, length, Ok, Err, IfOk, IfErr, IfSome, IsNone, IsTrue, OnOk, OnErr};
+ghost use Rattle.std.specs.Prelude.{◌≡◌, ◌≢◌, ◌+◌, ◌≤◌, ◌↔◌, length, None, Some, Ok, Err, IfOk, IfErr, IfSome, IsNone, IsTrue, OnOk, OnErr};
 ghost use Rattle.std.specs.IoError.{error_kind};
 ghost use Rattle.std.specs.Fs.{IsReadonly};
 ghost use Rattle.std.specs.Io.KnownBytes.{Appends};
@@ -69,6 +69,19 @@ fn is_out_of_memory(error: &io::Error) -> bool
     ensures { IsTrue result ↔ (error_kind error.now ≡ ErrorKind.OutOfMemory) }
 {
     error.kind() == ErrorKind::OutOfMemory
+}
+
+// What a call on a path answered, or `None` where nothing stands there. Any other failure tells nothing of what stands there.
+fn if_there<T>(answer: io::Result<T>) -> io::Result<Option<T>>
+    ensures there { IfOk answer (λ value. result ≡ Ok (Some value)) }
+    ensures absent { IfErr answer (λ error. error_kind error ≡ ErrorKind.NotFound → result ≡ Ok None) }
+    ensures unknown { IfErr answer (λ error. error_kind error ≢ ErrorKind.NotFound → result ≡ Err error) }
+{
+    match answer {
+        Ok(value) => Ok(Some(value)),
+        Err(error) if error.kind() == ErrorKind::NotFound => Ok(None),
+        Err(error) => Err(error),
+    }
 }
 
 // Makes a new file, if nothing has its name.
@@ -269,9 +282,8 @@ impl<R: Files<File = File> + AllocGlobal> System<'_, R> {
         ensures sound { OnOk result (NothingFailed self.new) }
         ensures cause { IfErr result (λ fault. HasCause fault self.new) }
     {
-        match File::open(self.files, path) {
-            Ok(file) => Ok(Some(file)),
-            Err(error) if error.kind() == ErrorKind::NotFound => Ok(None),
+        match if_there(File::open(self.files, path)) {
+            Ok(found) => Ok(found),
             Err(error) => Err(self.read_failed(&error)),
         }
     }
@@ -298,8 +310,8 @@ impl<R: Files<File = File> + AllocGlobal> System<'_, R> {
         ensures sound { OnOk result (NothingFailed self.new) }
         ensures cause { IfErr result (λ fault. HasCause fault self.new) }
     {
-        match fs::metadata(self.files, path) {
-            Ok(metadata) => {
+        match if_there(fs::metadata(self.files, path)) {
+            Ok(Some(metadata)) => {
                 let permissions = self.permissions(&metadata)?;
                 Ok(Some(Access {
                     owner: metadata.uid(),
@@ -307,7 +319,7 @@ impl<R: Files<File = File> + AllocGlobal> System<'_, R> {
                     permissions,
                 }))
             }
-            Err(error) if error.kind() == ErrorKind::NotFound => self.absent(path),
+            Ok(None) => self.absent(path),
             Err(error) => Err(self.write_failed(&error)),
         }
     }
@@ -319,9 +331,9 @@ impl<R: Files<File = File> + AllocGlobal> System<'_, R> {
         ensures sound { OnOk result (NothingFailed self.new) }
         ensures cause { IfErr result (λ fault. HasCause fault self.new) }
     {
-        match fs::symlink_metadata(self.files, path) {
-            Ok(_) => Err(self.misplaced()),
-            Err(error) if error.kind() == ErrorKind::NotFound => Ok(None),
+        match if_there(fs::symlink_metadata(self.files, path)) {
+            Ok(Some(_)) => Err(self.misplaced()),
+            Ok(None) => Ok(None),
             Err(error) => Err(self.write_failed(&error)),
         }
     }
@@ -332,9 +344,9 @@ impl<R: Files<File = File> + AllocGlobal> System<'_, R> {
         ensures sound { OnOk result (NothingFailed self.new) }
         ensures cause { IfErr result (λ fault. HasCause fault self.new) }
     {
-        match fs::symlink_metadata(self.files, path) {
-            Ok(metadata) => Ok(metadata.is_symlink()),
-            Err(error) if error.kind() == ErrorKind::NotFound => Ok(false),
+        match if_there(fs::symlink_metadata(self.files, path)) {
+            Ok(Some(metadata)) => Ok(metadata.is_symlink()),
+            Ok(None) => Ok(false),
             Err(error) => Err(self.write_failed(&error)),
         }
     }

@@ -16,8 +16,8 @@ use Rattle.wfolder.proofs.Safety.{at_each, clears_left, crash_durable, holds_at,
 use Rattle.wfolder.proofs.Steps.{after, behind_removal, by_write}
 
 -- the three ends
-pub ends_kept : (site : Site) (bytes : List ℕ) (fault : Fault) (old new : List Call) → IsLocked old → Refused site fault old new Idle
-    → Replaces site bytes (Err (Kept fault)) old new
+pub ends_kept : (site : Site) (bytes : List ℕ) (fault : Fault) (old new : List Call) → IsLocked site.folder old
+    → Refused site fault old new Idle → Replaces site bytes (Err (Kept fault)) old new
 ends_kept site bytes fault old new locked refused =
     let a = refused.after in
     record {
@@ -33,7 +33,7 @@ ends_kept site bytes fault old new locked refused =
     }
 
 pub ends_beside : (site : Site) (bytes name : List ℕ) (ready : Bool) (known : Option (List ℕ)) (durable : Bool) (fault : Fault)
-    (old new : List Call) → IsLocked old → (a : After site old new (Beside name ready known durable))
+    (old new : List Call) → IsLocked site.folder old → (a : After site old new (Beside name ready known durable))
     → (before : List Call) × (a.since ≡ Removed name false ∷ before) → HasRefusal site.folder fault a.since
     → Replaces site bytes (Err (Kept fault)) old new
 ends_beside site bytes name ready known durable fault old new locked a last refusal = record {
@@ -53,7 +53,7 @@ ends_beside site bytes name ready known durable fault old new locked a last refu
       (holds_at site.path old a.since (Beside name ready known durable) d e locked a.reaches runs).0;
 }
 
-pub ends_durable : (site : Site) (bytes : List ℕ) (old new : List Call) → IsLocked old → After site old new (Durable bytes)
+pub ends_durable : (site : Site) (bytes : List ℕ) (old new : List Call) → IsLocked site.folder old → After site old new (Durable bytes)
     → Replaces site bytes (Ok tt) old new
 ends_durable site bytes old new locked a = record {
   since = a.since;
@@ -69,7 +69,7 @@ ends_durable site bytes old new locked a = record {
       record { holds_new = holds_file site.path bytes e p.file p.leads p.content; leaves_new = crash_durable site.path bytes e p };
 }
 
-pub ends_unsynced : (site : Site) (bytes : List ℕ) (fault : Fault) (old new : List Call) → IsLocked old
+pub ends_unsynced : (site : Site) (bytes : List ℕ) (fault : Fault) (old new : List Call) → IsLocked site.folder old
     → (a : After site old new (Placed bytes)) → HasRefusal site.folder fault a.since → Replaces site bytes (Err (Unsynced fault)) old new
 ends_unsynced site bytes fault old new locked a refusal = record {
   since = a.since;
@@ -90,12 +90,12 @@ pub from_nothing : (site : Site) (old : List Call) → After site old old Idle
 from_nothing site old = record { since = []; is = refl; reaches = begins }
 
 -- a run that makes no new file
-pub never_made : (site : Site) (bytes : List ℕ) (fault : Fault) (old new : List Call) → IsLocked old → LeavesIdle site fault old new
-    → Replaces site bytes (Err (Kept fault)) old new
+pub never_made : (site : Site) (bytes : List ℕ) (fault : Fault) (old new : List Call) → IsLocked site.folder old
+    → LeavesIdle site fault old new → Replaces site bytes (Err (Kept fault)) old new
 never_made site bytes fault old new locked left = ends_kept site bytes fault old new locked (left old (from_nothing site old))
 
 -- behind a move that failed the new file is removed, or stays
-pub given_up : (site : Site) (bytes name : List ℕ) (fault : Fault) (gone : Bool) (old mid new : List Call) → IsLocked old
+pub given_up : (site : Site) (bytes name : List ℕ) (fault : Fault) (gone : Bool) (old mid new : List Call) → IsLocked site.folder old
     → Spoilt site name fault old mid → new ≡ Removed name gone ∷ mid → Replaces site bytes (Err (Kept fault)) old new
 given_up site bytes name fault true old mid new locked s is = ends_kept site bytes fault old new locked (record {
   after = record {
@@ -113,7 +113,7 @@ given_up site bytes name fault false old mid new locked s is = ends_beside site 
     }) (s.refused.after.since, refl) (behind_removal site.folder fault name false s.refused.after.since s.refused.refusal)
 
 -- behind the move the folder is brought to the disk, or not
-pub ended : (site : Site) (bytes : List ℕ) (r : Result (Unit {0}) NotReplaced) (old mid new : List Call) → IsLocked old
+pub ended : (site : Site) (bytes : List ℕ) (r : Result (Unit {0}) NotReplaced) (old mid new : List Call) → IsLocked site.folder old
     → IfErr r (λ fault. IsUnsynced fault) → IfErr r (λ fault. fault_of fault ≢ faults.Read) → After site old mid (Placed bytes)
     → new ≡ SyncedFolder (is_ok r) ∷ mid → Replaces site bytes r old new
 ended site bytes (Ok done) old mid new locked unsynced kind a is =
@@ -128,7 +128,7 @@ ended site bytes (Err (Unsynced fault)) old mid new locked unsynced kind a is =
 
 -- a run that makes its new file, and gives up
 pub gave_up : (site : Site) (bytes name at gone_at : List ℕ) (fault : Fault) (gone : Bool) (old begun mid new : List Call)
-    → IsLocked old → at ≡ name → gone_at ≡ name → Brings site old Idle begun (new_file site name)
+    → IsLocked site.folder old → at ≡ name → gone_at ≡ name → Brings site old Idle begun (new_file site name)
     → LeavesBeside site at fault begun mid
     → new ≡ Removed gone_at gone ∷ mid → Replaces site bytes (Err (Kept fault)) old new
 gave_up site bytes name at gone_at fault gone old begun mid new locked is_at is_gone first left is =
@@ -138,7 +138,7 @@ gave_up site bytes name at gone_at fault gone old begun mid new locked is_at is_
 
 -- a run that makes its new file, and puts it in the store's place
 pub went_through : (site : Site) (bytes name at : List ℕ) (r : Result (Unit {0}) NotReplaced) (old begun mid new : List Call)
-    → IsLocked old → at ≡ name → Brings site old Idle begun (new_file site name)
+    → IsLocked site.folder old → at ≡ name → Brings site old Idle begun (new_file site name)
     → Brings site begun (new_file site at) mid (Placed bytes) → IfErr r (λ fault. IsUnsynced fault)
     → IfErr r (λ fault. fault_of fault ≢ faults.Read) → new ≡ SyncedFolder (is_ok r) ∷ mid → Replaces site bytes r old new
 went_through site bytes name at r old begun mid new locked is_at first then unsynced kind is =

@@ -2,7 +2,7 @@
 use Rattle.std.specs.Prelude.{⊤, is_none}
 use Rattle.std.proofs.Common.{◌≡◌, ◌≢◌, ◌⊎◌, inl, inr, ⊎_elim, ℕ, Bool, true, false, List, [], ◌∷◌, ◌++◌, Option}
 use Rattle.std.proofs.Common.{None, Some, refl, sym, ◌∙◌, ap, subst, rules, option_map}
-use Rattle.wfolder.specs.Call.{Call, Rights, Locked, Found, Listed, Created, Taken, Permitted, Wrote}
+use Rattle.wfolder.specs.Call.{Call, Rights, Locked, Checked, Found, Listed, Created, Taken, Permitted, Wrote}
 use Rattle.wfolder.specs.Call.{Synced, Moved, SyncedFolder, Removed, Began}
 use Rattle.wfolder.specs.Model.{Disk, IsAmong, holds, IsLeft, Leaves, MayHold, LeadsTo, IsSameFile, IsSameName, IsSame}
 use Rattle.wfolder.specs.Model.{Creates, Writes, Syncs, Renames, SyncsFolder, Removes, IsLocked, IsOwn, Others, Runs}
@@ -112,30 +112,32 @@ durable_on store bytes mid e same p =
     }
 
 -- calls that follow a lock leave it held
-locked_on : (cs base : List Call) → IsLocked base → IsLocked (cs ++ base)
-locked_on [] base held = held
-locked_on (Locked true ∷ cs) base held = tt
-locked_on (Locked false ∷ cs) base held = locked_on cs base held
-locked_on (Found name bytes ∷ cs) base held = locked_on cs base held
-locked_on (Began name bytes ∷ cs) base held = locked_on cs base held
-locked_on (Listed folder names ∷ cs) base held = locked_on cs base held
-locked_on (Created name closed done ∷ cs) base held = locked_on cs base held
-locked_on (Taken name closed ∷ cs) base held = locked_on cs base held
-locked_on (Permitted name rights done ∷ cs) base held = locked_on cs base held
-locked_on (Wrote name bytes done ∷ cs) base held = locked_on cs base held
-locked_on (Synced name done ∷ cs) base held = locked_on cs base held
-locked_on (Moved from to done ∷ cs) base held = locked_on cs base held
-locked_on (SyncedFolder done ∷ cs) base held = locked_on cs base held
-locked_on (Removed name done ∷ cs) base held = locked_on cs base held
+locked_on : (folder : List ℕ) (cs base : List Call) → IsLocked folder base → IsLocked folder (cs ++ base)
+locked_on folder [] base held = held
+locked_on folder (Locked at true ∷ cs) base held = inr (locked_on folder cs base held)
+locked_on folder (Locked at false ∷ cs) base held = locked_on folder cs base held
+locked_on folder (Checked name access ∷ cs) base held = locked_on folder cs base held
+locked_on folder (Found name bytes ∷ cs) base held = locked_on folder cs base held
+locked_on folder (Began name bytes ∷ cs) base held = locked_on folder cs base held
+locked_on folder (Listed at names ∷ cs) base held = locked_on folder cs base held
+locked_on folder (Created name closed done ∷ cs) base held = locked_on folder cs base held
+locked_on folder (Taken name closed ∷ cs) base held = locked_on folder cs base held
+locked_on folder (Permitted name rights done ∷ cs) base held = locked_on folder cs base held
+locked_on folder (Wrote name bytes done ∷ cs) base held = locked_on folder cs base held
+locked_on folder (Synced name done ∷ cs) base held = locked_on folder cs base held
+locked_on folder (Moved from to done ∷ cs) base held = locked_on folder cs base held
+locked_on folder (SyncedFolder done ∷ cs) base held = locked_on folder cs base held
+locked_on folder (Removed name done ∷ cs) base held = locked_on folder cs base held
 
 -- what others leave while this run holds the lock
 record Stay (store : List ℕ) (cs : List Call) (d e : Disk) : Type 0 where
   store_stays : IsSame store d e
   own_stays : (name : List ℕ) → IsOwn cs name → IsSame name d e
 
-stay : (store : List ℕ) (base cs : List Call) (d e : Disk) → IsLocked base → Others store base cs d e → Stay store cs d e
-stay store base cs d e held others =
-    let still = locked_on cs base held in
+stay : (store : List ℕ) {folder : List ℕ} (base cs : List Call) (d e : Disk) → IsLocked folder base → Others store folder base cs d e
+    → Stay store cs d e
+stay store {folder = folder} base cs d e held others =
+    let still = locked_on folder cs base held in
     record { store_stays = others.store_stays still; own_stays = others.own_stays still }
 
 others_leave : (store : List ℕ) (cs : List Call) (stage : Stage) (d mid e : Disk) → Owns store cs stage
@@ -284,9 +286,9 @@ none_known a is = search rules
 
 -- the state behind the calls, at whichever stage they bring the run to
 pub holds_at : (store : List ℕ) {folder : List ℕ} {access : Option Rights} (base cs : List Call) (stage : Stage) (d e : Disk)
-    → IsLocked base
+    → IsLocked folder base
     → Reaches store folder access cs stage
-    → Runs store base d cs e → Holds store stage d e
+    → Runs store folder base d cs e → Holds store stage d e
 holds_at store base cs stage d e held begins runs = runs.store_stays held
 holds_at store base cs stage d e held (locks r) runs =
     others_leave store cs stage d runs.1 e (owns store cs stage (locks r)) (stay store base cs runs.1 e held runs.4)
@@ -410,15 +412,15 @@ crash store bytes (Durable durable) d e tells h held may = inr (crash_durable st
 
 -- a crash at the last moment
 pub at_last : (store bytes : List ℕ) {folder : List ℕ} {access : Option Rights} (base cs : List Call) (stage : Stage)
-    → IsLocked base → Tells bytes stage
-    → Reaches store folder access cs stage → LeavesOldOrNew store bytes base cs
+    → IsLocked folder base → Tells bytes stage
+    → Reaches store folder access cs stage → LeavesOldOrNew store folder bytes base cs
 at_last store bytes base cs stage locked tells r d e runs held may =
     crash store bytes stage d e tells (holds_at store base cs stage d e locked r runs) held may
 
 -- a crash at each moment
 pub at_each : (store bytes : List ℕ) {folder : List ℕ} {access : Option Rights} (base cs : List Call) (stage : Stage)
-    → IsLocked base → Tells bytes stage
-    → Reaches store folder access cs stage → AtEachMoment (LeavesOldOrNew store bytes base) cs
+    → IsLocked folder base → Tells bytes stage
+    → Reaches store folder access cs stage → AtEachMoment (LeavesOldOrNew store folder bytes base) cs
 at_each store bytes {folder = folder} {access = access} base cs stage locked tells begins =
     at_last store bytes {folder = folder} {access = access} base [] Idle locked tt begins
 at_each store bytes base cs stage locked tells (locks r) =

@@ -5,7 +5,7 @@ use Rattle.std.proofs.Common.{Result, Ok, Err, OnOk, IfOk, IfErr, refl, sym, sub
 use Rattle.std.proofs.Common.{◌<◌, get_or, length, map, take}
 use Rattle.std.proofs.lemmas.List.{map_more}
 use Rattle.std.proofs.lemmas.List.Elements.{All-nil, All-push, All-weaker}
-use Rattle.wfolder.specs.Call.{Call, Rights, Locked, Found, Listed, Created, Taken, Permitted, Wrote}
+use Rattle.wfolder.specs.Call.{Call, Rights, Locked, Checked, Found, Listed, Created, Taken, Permitted, Wrote}
 use Rattle.wfolder.specs.Call.{Synced, Moved, SyncedFolder, Removed, Began, made_or_taken}
 use Rattle.wfolder.specs.Calls.{HasRefusal, HasTaken, tries}
 use Rattle.wfolder.specs.Clearing.{HasCleared, IsClearing, IsTried}
@@ -46,7 +46,8 @@ behind_removal folder faults.NoMemory name done cs refusal = refusal
 all_taken : (folder : List ℕ) (cs : List Call) → HasTaken folder tries cs → HasRefusal folder faults.Write cs
 all_taken folder [] taken = absurd taken
 all_taken folder (Taken name closed ∷ cs) taken = taken
-all_taken folder (Locked done ∷ cs) taken = absurd taken
+all_taken folder (Locked at done ∷ cs) taken = absurd taken
+all_taken folder (Checked name access ∷ cs) taken = absurd taken
 all_taken folder (Found name held ∷ cs) taken = absurd taken
 all_taken folder (Began name bytes ∷ cs) taken = absurd taken
 all_taken folder (Listed at names ∷ cs) taken = absurd taken
@@ -129,7 +130,8 @@ misplaced {site = site} {count = count} {old = old} {new = new} is same all trie
 
 -- a removal that was tried before a call is tried behind it
 tried_on : (path : List ℕ) (c : Call) (cs : List Call) → IsTried path cs → IsTried path (c ∷ cs)
-tried_on path (Locked done) cs tried = tried
+tried_on path (Locked at done) cs tried = tried
+tried_on path (Checked name access) cs tried = tried
 tried_on path (Found name held) cs tried = tried
 tried_on path (Began name bytes) cs tried = tried
 tried_on path (Listed folder names) cs tried = tried

@@ -15,8 +15,10 @@ rights_of access = record { owner = access.owner; group = access.group; mode = p
 
 -- names and bytes as they were passed; a flag tells whether the call was done
 pub data Call : Type 0 where
-  -- this run takes the folder's lock, which it keeps
-  Locked : Bool → Call
+  -- this run opens the folder under a path and takes its lock, which it keeps
+  Locked : List ℕ → Bool → Call
+  -- what stands under a name was looked at, and may be replaced: a plain file with leave to write, of this owner, group and mode, or none
+  Checked : List ℕ → Option Rights → Call
   -- the file of a name was read whole, or there was none
   Found : List ℕ → Option (List ℕ) → Call
   -- the names of a folder's files that begin as those of new files do were listed, or could not be
@@ -33,7 +35,7 @@ pub data Call : Type 0 where
   Synced : List ℕ → Bool → Call
   -- the file of the first name is moved over that of the second
   Moved : List ℕ → List ℕ → Bool → Call
-  -- the names of the folder are brought to the disk
+  -- the names of the folder that is locked are brought to the disk
   SyncedFolder : Bool → Call
   -- a name is removed
   Removed : List ℕ → Bool → Call

@@ -9,8 +9,8 @@
 --   other; one that fails does nothing (`rename`);
 -- - once the folder is synced, a crash leaves each of its names leading where it leads (`fsync` of a folder);
 -- - a sync that fails promises nothing, nor does one that never came;
--- - while this run holds the folder's lock, no other run changes the store, nor what this run made. Another run of the same
---   program does not: it changes a folder only while it holds the lock (`flock`).
+-- - while this run holds the lock of the folder that the store stands in, no other run changes the store, nor what this run made.
+--   Another run of the same program does not: it changes a folder only while it holds its lock (`flock`).
 --
 -- Not relied on: the order in which the system itself writes, or that it writes at all before it is told to. Not promised: a
 -- disk that tells of a sync that it did not do, a rename that fails with EIO and was done, and what other programs do.
@@ -121,7 +121,8 @@ pub record Removes (name : List ℕ) (d e : Disk) : Type 0 where
 
 -- what a call does
 abbrev pub Does : Call → Disk → Disk → Type 0
-Does (calls.Locked done) d e = e ≡ d
+Does (calls.Locked folder done) d e = e ≡ d
+Does (calls.Checked name access) d e = e ≡ d
 Does (calls.Found name held) d e = (e ≡ d) × (held ≡ holds d name)
 Does (calls.Began name bytes) d e = e ≡ d
 Does (calls.Listed folder names) d e = e ≡ d
@@ -146,20 +147,21 @@ IsOwn (calls.Moved from to true ∷ cs) name = (name ≢ from) × IsOwn cs name
 IsOwn (calls.Removed gone true ∷ cs) name = (name ≢ gone) × IsOwn cs name
 IsOwn (c ∷ cs) name = IsOwn cs name
 
--- this run holds the lock of the folder, by its calls, the newest first
-abbrev pub IsLocked : List Call → Type 0
-IsLocked [] = ⊥
-IsLocked (calls.Locked true ∷ cs) = ⊤
-IsLocked (c ∷ cs) = IsLocked cs
+-- this run holds the lock of the folder under this path, by its calls, the newest first
+abbrev pub IsLocked : List ℕ → List Call → Type 0
+IsLocked folder [] = ⊥
+IsLocked folder (calls.Locked locked true ∷ cs) = (folder ≡ locked) ⊎ IsLocked folder cs
+IsLocked folder (c ∷ cs) = IsLocked folder cs
 
--- what others may do between two calls, behind these and those before them: while this run holds the lock, anything but to the
--- store and to what this run made; anything at all while it does not
-pub record Others (store : List ℕ) (base cs : List Call) (d e : Disk) : Type 0 where
-  pub store_stays : IsLocked (cs ++ base) → IsSame store d e
-  pub own_stays : IsLocked (cs ++ base) → (name : List ℕ) → IsOwn cs name → IsSame name d e
+-- what others may do between two calls, behind these and those before them: while this run holds the lock of the store's folder,
+-- anything but to the store and to what this run made; anything at all while it does not
+pub record Others (store folder : List ℕ) (base cs : List Call) (d e : Disk) : Type 0 where
+  pub store_stays : IsLocked folder (cs ++ base) → IsSame store d e
+  pub own_stays : IsLocked folder (cs ++ base) → (name : List ℕ) → IsOwn cs name → IsSame name d e
 
 -- the calls, the newest first, behind those before them, may lead from the one state to the other, whatever others do before,
 -- between and behind them
-abbrev pub Runs : List ℕ → List Call → Disk → List Call → Disk → Type 0
-Runs store base d [] e = Others store base [] d e
-Runs store base d (c ∷ cs) e = (mid : Disk) × (done : Disk) × Runs store base d cs mid × Does c mid done × Others store base (c ∷ cs) done e
+abbrev pub Runs : List ℕ → List ℕ → List Call → Disk → List Call → Disk → Type 0
+Runs store folder base d [] e = Others store folder base [] d e
+Runs store folder base d (c ∷ cs) e = (mid : Disk) × (done : Disk) × Runs store folder base d cs mid × Does c mid done
+    × Others store folder base (c ∷ cs) done e

@@ -20,8 +20,8 @@ pub data Stage : Type 0 where
 -- these calls, the newest first, bring a run from nothing to a stage, where the store under this path has this access
 pub data Reaches (store folder : List ℕ) (access : Option Rights) : List Call → Stage → Type 0 where
   begins : Reaches store folder access [] Idle
-  locks : {cs : List Call} {stage : Stage} {done : Bool} → Reaches store folder access cs stage
-      → Reaches store folder access (Locked done ∷ cs) stage
+  locks : {cs : List Call} {stage : Stage} {at : List ℕ} {done : Bool} → Reaches store folder access cs stage
+      → Reaches store folder access (Locked at done ∷ cs) stage
   reads : {cs : List Call} {stage : Stage} {name : List ℕ} {held : Option (List ℕ)} → Reaches store folder access cs stage
       → Reaches store folder access (Found name held ∷ cs) stage
   lists : {cs : List Call} {at : List ℕ} {names : Option (List (List ℕ))} → Reaches store folder access cs Idle

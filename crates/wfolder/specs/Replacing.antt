@@ -26,9 +26,9 @@ AtEachMoment P [] = P []
 AtEachMoment P (c ∷ cs) = P (c ∷ cs) × AtEachMoment P cs
 
 -- a crash behind these calls leaves under the store's name what it might have left before them, or these bytes, whole
-abbrev pub LeavesOldOrNew : List ℕ → List ℕ → List Call → List Call → Type 0
-LeavesOldOrNew store bytes base cs = (d e : Disk) → Runs store base d cs e → (held : Option (List ℕ)) → MayHold e store held
-    → MayHold d store held ⊎ (held ≡ Some bytes)
+abbrev pub LeavesOldOrNew : List ℕ → List ℕ → List ℕ → List Call → List Call → Type 0
+LeavesOldOrNew store folder bytes base cs = (d e : Disk) → Runs store folder base d cs e → (held : Option (List ℕ))
+    → MayHold e store held → MayHold d store held ⊎ (held ≡ Some bytes)
 
 -- a new file beside the store, and not the store
 abbrev pub IsNewHere : List ℕ → List ℕ → Type 0
@@ -95,5 +95,5 @@ pub record Replaces (site : Site) (bytes : List ℕ) (result : Result (Unit {0})
   pub cleared : ClearsLeft site.folder since
   pub clears : ClearsOwn since
   pub refusal : IfErr result (λ fault. HasRefusal site.folder (fault_of fault) since)
-  pub moments : AtEachMoment (LeavesOldOrNew site.path bytes old) since
-  pub end : (d e : Disk) → Runs site.path old d since e → IsEnd site.path bytes result d e
+  pub moments : AtEachMoment (LeavesOldOrNew site.path site.folder bytes old) since
+  pub end : (d e : Disk) → Runs site.path site.folder old d since e → IsEnd site.path bytes result d e

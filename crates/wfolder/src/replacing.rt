@@ -244,7 +244,7 @@ pub fn replace<F: Folder>(
     bytes: &[u8],
 ) -> Result<(), NotReplaced>
     requires sound { NothingFailed (F.counts folder.old) }
-    requires locked { IsLocked (F.calls folder.old) }
+    requires locked { IsLocked target.now.folder (F.calls folder.old) }
     ensures replaces { Replaces target.now bytes.now result (F.calls folder.old) (F.calls folder.new) }
     ensures sound { OnOk result (NothingFailed (F.counts folder.new)) }
     ensures cause { IfErr result (λ fault. HasCause (fault_of fault) (F.counts folder.new)) }

@@ -177,7 +177,7 @@ impl Seen {
             return Ok(());
         };
         for stop in 0..MANY_CALLS {
-            let mut folder = Simulated::new(case.disk(alloc)?, stop);
+            let mut folder = Simulated::new(case.disk(alloc)?, target.folder(), stop);
             let end = replace(alloc, &mut folder, &target, case.new);
             self.look(alloc, folder.disk(), case, end)?;
             if end.is_ok() {
