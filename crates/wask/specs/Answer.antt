@@ -4,7 +4,7 @@ use Rattle.wsegment.specs.Declaration.{Declaration}
 use Rattle.wset.specs.Views.{View}
 use Rattle.wquery.specs.QueryTree.{QueryTree}
 use Rattle.wrules.specs.declared.rule.Rule.{Rule}
-use Rattle.wrules.specs.Rules.{first_broken_rule, number_of}
+use Rattle.wrules.specs.Rules.{first_broken_rule}
 use Rattle.wresolve.specs.Selecting.{resolved_query}
 pub use Rattle.wplanner.specs.Texts.{plan_answer, printed}
 use Rattle.wtable.specs.Tables.{rows_of_view}
@@ -22,7 +22,7 @@ comes_before_rows _ = true
 -- the first broken rule, else what is meant
 abbrev pub unless_broken : Option Rule → Result (List ℕ) AskFault → Result (List ℕ) AskFault
 unless_broken None meant = meant
-unless_broken (Some rule) meant = Err (faults.Broken (number_of rule))
+unless_broken (Some rule) meant = Err (faults.Broken rule)
 
 -- what a query is answered under a declaration, on the rows of a view
 abbrev pub query_answer : Declaration → View → QueryTree → Result (List ℕ) AskFault

@@ -59,9 +59,7 @@ fn answer(alloc: Global, set: &mut SegmentSet, query: &Query) -> Result<Vec<u8>,
 {
     match resolve(alloc, set.schema(), query) {
         Err(ResolveFault::NoMemory) => Err(AskFault::NoMemory),
-        Err(ResolveFault::Broken(rule)) => Err(AskFault::Broken {
-            rule: rule.number(),
-        }),
+        Err(ResolveFault::Broken(rule)) => Err(AskFault::Broken(rule)),
         Ok(resolved) => {
             set.make()?;
             answer_text(alloc, set, &resolved)

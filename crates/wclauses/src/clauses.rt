@@ -46,9 +46,9 @@ enum Opener {
     Other,
 }
 
-/// A pair of parentheses on the way, or the whole query.
+/// A pair of parentheses that is open, or the whole query.
 #[derive(Clone, Copy)]
-struct Frame {
+struct OpenPair {
     /// Where the next token in it stands.
     standing: Standing,
     /// Whether it holds a SELECT.
@@ -61,9 +61,9 @@ struct Frame {
 #[derive(Drop)]
 struct Walk {
     /// The innermost pair of parentheses.
-    inner: Frame,
+    inner: OpenPair,
     /// Those around it, the outermost first.
-    outer: Vec<Frame>,
+    outer: Vec<OpenPair>,
 }
 
 /// Where all tokens of a query stand, and its parentheses.
@@ -117,7 +117,7 @@ fn beginning(level: usize) -> Standing {
     }
 }
 
-impl Frame {
+impl OpenPair {
     // Where the tokens stand in parentheses behind this.
     fn standing_behind(&self, opener: Opener) -> Standing {
         let mut inside = self.standing;
@@ -144,7 +144,7 @@ impl Walk {
         }
         let standing = self.inner.standing_behind(opener);
         self.outer.push(self.inner)?;
-        self.inner = Frame {
+        self.inner = OpenPair {
             standing,
             is_query: opener == Opener::From,
             has_fed: false,
@@ -196,7 +196,7 @@ fn standings_of(
 ) -> Result<Vec<Standing>, AllocError> {
     let mut standings = Vec::new(alloc);
     let mut walk = Walk {
-        inner: Frame {
+        inner: OpenPair {
             standing: beginning(0),
             is_query: true,
             has_fed: false,

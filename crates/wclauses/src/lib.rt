@@ -16,5 +16,5 @@ mod tokens;
 pub use clauses::{Clause, Clauses, Standing};
 pub use pairs::{Given, Pairs};
 pub use tokens::{
-    function_at, is_called, is_grouping, is_keyword, is_parenthesis, is_star, is_symbol, name_at,
+    function_at, is_called, is_grouping, is_parenthesis, is_star, is_symbol, name_at,
 };

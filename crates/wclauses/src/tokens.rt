@@ -31,7 +31,7 @@ pub fn is_symbol(tokens: &[Token], number: usize, symbol: Symbol) -> bool {
 }
 
 /// Whether a token is this keyword.
-pub fn is_keyword(tokens: &[Token], number: usize, keyword: Keyword) -> bool {
+pub(crate) fn is_keyword(tokens: &[Token], number: usize, keyword: Keyword) -> bool {
     match tokens.get(number) {
         Some(token) => match &token.lexeme {
             Lexeme::Keyword(other) => *other == keyword,

@@ -15,7 +15,7 @@ begins (refusals.Declaration fault) label text called told = begins_with _ label
 begins (refusals.Name fault) label text called told = begins_with _ label text called told
 begins (refusals.Segment fault) label text called told = begins_with _ label text called told
 begins (refusals.File fault) label text called told = begins_with _ label text called told
-begins (refusals.Query fault) label text called told = begins_with told.0 label text (sym (called told.0 told.1)) told.2
+begins (refusals.Query fault) label text called told = begins_with _ label text called told
 begins refusals.Stream label text called told = begins_with _ label text called told
 
 -- what is told of the refusal of a reply explains it

@@ -1,8 +1,8 @@
 -- What a refused subcommand has printed, and what an explanation of it begins with.
-use Rattle.std.specs.Prelude.{◌≡◌, ◌≢◌, ◌≤◌, ◌==◌, ◌||◌, ◌++◌, ⊤, ℕ, Bool, List, [], ◌∷◌, codes}
+use Rattle.std.specs.Prelude.{◌≡◌, ◌≢◌, ◌==◌, ◌||◌, ◌++◌, ⊤, ℕ, Bool, List, [], ◌∷◌, codes}
 use Rattle.std.specs.List.{before_first}
 use Rattle.wshown.specs.Shown.{BeginsWith}
-use Rattle.wsentences.specs.Labels.{HasQueryLabel, file_label, name_label, segment_label, table_label}
+use Rattle.wsentences.specs.Labels.{file_label, name_label, query_label, segment_label, table_label}
 use Rattle.wsegment.specs.Declaration.{Declaration, declaration_text}
 use Rattle.wsegment.specs.Spelling.{IsDeclaration}
 use Rattle.wplanner.specs.declared.fault.AskFault.{AskFault}
@@ -29,19 +29,13 @@ pub record Explains (reply text : List ℕ) : Type 0 where
   pub filled : label_in line ≢ []
   pub label : BeginsWith (label_in line) text
 
--- a reply can tell this fault of a query: a rule that is broken has a number from 10 to 28
-abbrev pub IsTold : AskFault → Type 0
-IsTold (queries.Broken rule) = (10 ≤ rule) × (rule ≤ 28)
-IsTold queries.NoMemory = ⊥
-IsTold other = ⊤
-
 -- a reply tells the refusal of a query
 pub record RefusesQuery (reply : List ℕ) : Type 0 where
   pub line : List ℕ
   pub fault : AskFault
   pub is : reply ≡ codes "refused " ++ line
-  pub told : IsTold fault
-  pub label : HasQueryLabel fault (label_in line)
+  pub told : fault ≢ queries.NoMemory
+  pub label : label_in line ≡ query_label fault
 
 -- bytes declare a table
 abbrev pub IsDeclared : List ℕ → Type 0
@@ -49,13 +43,13 @@ IsDeclared bytes = (d : Declaration) × IsDeclaration d × (bytes ≡ declaratio
 
 -- ---- with the fault that it tells
 
--- a refusal has this label, and that of a query has no other one
+-- a refusal has this label
 abbrev pub IsCalled : Refusal → List ℕ → Type 0
 IsCalled (refusals.Declaration fault) label = label ≡ table_label fault
 IsCalled (refusals.Name fault) label = label ≡ name_label fault
 IsCalled (refusals.Segment fault) label = label ≡ segment_label fault
 IsCalled (refusals.File fault) label = label ≡ file_label fault
-IsCalled (refusals.Query fault) label = (other : List ℕ) → HasQueryLabel fault other → other ≡ label
+IsCalled (refusals.Query fault) label = label ≡ query_label fault
 IsCalled refusals.Stream label = label ≡ codes "B1"
 
 -- a reply tells a refusal of this label
@@ -65,13 +59,13 @@ pub record Refuses (reply : List ℕ) (refusal : Refusal) : Type 0 where
   pub filled : label_in line ≢ []
   pub called : IsCalled refusal (label_in line)
 
--- a text begins with a label of a refusal
+-- a text begins with the label of a refusal
 abbrev pub BeginsWithLabel : Refusal → List ℕ → Type 0
 BeginsWithLabel (refusals.Declaration fault) text = BeginsWith (table_label fault) text
 BeginsWithLabel (refusals.Name fault) text = BeginsWith (name_label fault) text
 BeginsWithLabel (refusals.Segment fault) text = BeginsWith (segment_label fault) text
 BeginsWithLabel (refusals.File fault) text = BeginsWith (file_label fault) text
-BeginsWithLabel (refusals.Query fault) text = (label : List ℕ) × HasQueryLabel fault label × BeginsWith label text
+BeginsWithLabel (refusals.Query fault) text = BeginsWith (query_label fault) text
 BeginsWithLabel refusals.Stream text = BeginsWith (codes "B1") text
 
 -- a name or a declaration is refused, and explained by what was given alone

@@ -30,7 +30,8 @@ pub struct Stream<'p, 'b> {
     pub place: Place<'b>,
 }
 
-/// What a subcommand was given.
+/// What a subcommand was given. Its paths and words, the bytes of the table, of the store and of the input are lent from different
+/// places, for as long as each of these has them.
 #[derive(Clone, Copy)]
 pub struct Given<'p, 't, 's, 'w, 'o> {
     /// The declaration of the table.
@@ -43,9 +44,11 @@ pub struct Given<'p, 't, 's, 'w, 'o> {
     pub stream: Option<Stream<'w, 'o>>,
     /// The other store.
     pub other: Option<Input<'w, 'o>>,
-    /// The words of a name.
+    /// The word of a name's origin, empty where there was no name.
     pub origin: &'w str,
+    /// The word of a name's number, empty where there was no name.
     pub number: &'w str,
+    /// The text of the query, empty where there was none.
     pub query: &'w str,
 }
 

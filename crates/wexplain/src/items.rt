@@ -3,10 +3,8 @@ ghost use Rattle.std.specs.Prelude.{◌≡◌, ◌++◌, ℕ, List, IfErr, IfOk,
 ghost use Rattle.wexplain.specs.Items.{IsCutShort, IsItem, HasBody, body_length};
 
 use wrecords::{Body, Form, cut_body, cut_line, read_form};
+use wsegment::LONGEST_SEGMENT;
 use wvalues::Name;
-
-/// The most bytes of a segment.
-const MOST_BYTES: u32 = 67_108_864;
 
 /// The most bytes of a line.
 const LONGEST_LINE: usize = 200;
@@ -33,7 +31,7 @@ fn body_length(form: &Form) -> Option<u32>
 
 // Whether the body of a line is longer than a segment may be.
 fn has_long_body(form: &Form) -> bool {
-    body_length(form).is_some_and(|len| len > MOST_BYTES)
+    body_length(form).is_some_and(|len| len as usize > LONGEST_SEGMENT)
 }
 
 // The body behind a line, or what stands where its line feed is missing.
@@ -87,7 +85,8 @@ pub(crate) fn cut_short(bytes: &[u8]) -> Option<Name>
         return None;
     };
     match form {
-        Form::Content(name, len) if len <= MOST_BYTES && rest.len() <= len as usize => Some(name),
+        Form::Content(name, len) if len as usize <= LONGEST_SEGMENT && rest.len() <= len as usize =>
+            Some(name),
         _ => None,
     }
 }

@@ -1,7 +1,7 @@
 //! What is wrong in a query.
-ghost use Rattle.std.specs.Prelude.{ℕ, List, IfOk, string_bytes};
+ghost use Rattle.std.specs.Prelude.{IfOk, string_bytes};
 ghost use Rattle.wshown.specs.Shown.{BeginsWith};
-ghost use Rattle.wsentences.specs.Labels.{HasQueryLabel};
+ghost use Rattle.wsentences.specs.Labels.{query_label};
 
 use std::alloc::{AllocError, Global};
 use wlexer::lex;
@@ -24,9 +24,7 @@ fn push_in_tokens(
     };
     match fault {
         AskFault::Syntax => push_stop(alloc, text, query, tokens.as_slice()),
-        AskFault::Broken { rule } => {
-            push_breach(alloc, text, schema, query, tokens.as_slice(), rule)
-        }
+        AskFault::Broken(rule) => push_breach(alloc, text, schema, query, tokens.as_slice(), rule),
         _ => Ok(()),
     }
 }
@@ -71,7 +69,7 @@ pub fn explain_query(
     query: &[u8],
     fault: AskFault,
 ) -> Result<String, AllocError>
-    ensures { IfOk result (λ text. (label : List ℕ) × HasQueryLabel fault label × BeginsWith label (string_bytes text)) }
+    ensures { IfOk result (λ text. BeginsWith (query_label fault) (string_bytes text)) }
 {
     let mut below = String::new(alloc);
     push_query_place(alloc, &mut below, schema, query, fault)?;

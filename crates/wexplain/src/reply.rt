@@ -1,16 +1,18 @@
 //! From what a refused subcommand has printed to what is wrong.
-ghost use Rattle.std.specs.Prelude.{◌≡◌, ◌≢◌, ◌≤◌, ◌++◌, List, [], ℕ, IfSome, IsSome, IsSomeAnd, codes};
-ghost use Rattle.std.specs.Fmt.{decimal};
+ghost use Rattle.std.specs.Prelude.{◌≡◌, ◌≢◌, [], IfSome, IsSome, IsSomeAnd, codes};
 ghost use Rattle.std.specs.List.{position};
-ghost use Rattle.wsentences.specs.Labels.{HasQueryLabel, file_label, name_label, segment_label, table_label};
+ghost use Rattle.wsentences.specs.Labels.{file_label, name_label, query_label, segment_label, table_label};
 ghost use Rattle.wvalues.specs.declared.name.NameFault.{NameFault};
 ghost use Rattle.wsegment.specs.declared.schema_fault.SchemaFault.{SchemaFault};
+ghost use Rattle.wrules.specs.declared.rule.Rule.{Rule};
+ghost use Rattle.wrules.specs.Rules.{number_of};
 ghost use Rattle.wplanner.specs.declared.fault.AskFault.{AskFault};
-ghost use Rattle.wexplain.specs.Refusals.{IsCalled, IsOfQuery, IsTold, Refuses, RefusesQuery, ends_label, label_in, refusal_line};
+ghost use Rattle.wexplain.specs.Refusals.{IsCalled, IsOfQuery, Refuses, RefusesQuery, ends_label, label_in, refusal_line};
 
 use wexchange::FileFault;
 use wlines::split_word;
 use wplanner::AskFault;
+use wrules::Rule;
 use wsegment::{SchemaFault, SegmentFault};
 use wvalues::{NameFault, number_word};
 
@@ -51,7 +53,7 @@ fn behind_word(line: &[u8]) -> &[u8] {
 }
 
 // The number that stands behind a label and a word, 0 where there is none.
-fn number_of(line: &[u8]) -> u32 {
+fn number_behind(line: &[u8]) -> u32 {
     let rest = behind_word(behind_word(line));
     let number = match rest.strip_suffix(b"\n") {
         Some(number) => number,
@@ -92,7 +94,7 @@ fn segment_fault(label: &[u8], row: u32) -> Option<SegmentFault>
 fn content_fault(line: &[u8]) -> Option<FileFault>
     ensures { IfSome result (λ fault. file_label fault ≡ codes "X6") }
 {
-    match segment_fault(label_of(line), number_of(line)) {
+    match segment_fault(label_of(line), number_behind(line)) {
         Some(fault) => Some(FileFault::Segment(fault)),
         None => None,
     }
@@ -115,22 +117,48 @@ fn file_fault(label: &[u8], behind: &[u8]) -> Option<FileFault>
     }
 }
 
-// The fault of a query that breaks a rule.
-fn rule_fault(label: &[u8]) -> Option<AskFault>
-    ensures only { (rule : ℕ) → 10 ≤ rule → rule ≤ 28 → label.now ≡ codes "Q" ++ decimal rule → IsSome result }
-    ensures found { IfSome result (λ fault. (other : List ℕ) → HasQueryLabel fault other → other ≡ label.now) }
+// The rule of a number.
+fn rule_of(number: u32) -> Option<Rule>
+    ensures found { IfSome result (λ rule. number ≡ number_of rule) }
+    ensures only { (rule : Rule) → number ≡ number_of rule → IsSome result }
 {
-    let rule = number_word(label.strip_prefix(b"Q")?)?;
-    match rule {
-        10..=28 => Some(AskFault::Broken { rule: rule as u8 }),
+    match number {
+        10 => Some(Rule::UnknownTable),
+        11 => Some(Rule::UnknownColumn),
+        12 => Some(Rule::AmbiguousName),
+        13 => Some(Rule::WrongCall),
+        14 => Some(Rule::WrongType),
+        15 => Some(Rule::MisplacedWindowCall),
+        16 => Some(Rule::MisplacedAggregate),
+        17 => Some(Rule::UngroupedColumn),
+        18 => Some(Rule::WrongFilter),
+        19 => Some(Rule::UnknownWindow),
+        20 => Some(Rule::RepeatedWindow),
+        21 => Some(Rule::WrongCopy),
+        22 => Some(Rule::WrongBounds),
+        23 => Some(Rule::UnorderedGroups),
+        24 => Some(Rule::WrongRangeKey),
+        25 => Some(Rule::ZeroCount),
+        26 => Some(Rule::WrongPlace),
+        27 => Some(Rule::OverLimit),
+        28 => Some(Rule::TooManySets),
         _ => None,
     }
 }
 
+// The fault of a query that breaks the rule of a label.
+fn rule_fault(label: &[u8]) -> Option<AskFault>
+    ensures only { (rule : Rule) → label.now ≡ query_label (AskFault.Broken rule) → IsSome result }
+    ensures found { IfSome result (λ fault. label.now ≡ query_label fault) }
+{
+    let rule = rule_of(number_word(label.strip_prefix(b"Q")?)?)?;
+    Some(AskFault::Broken(rule))
+}
+
 // The fault of a query.
 fn query_fault(label: &[u8], place: u32) -> Option<AskFault>
-    ensures only { (fault : AskFault) → IsTold fault → HasQueryLabel fault label.now → IsSome result }
-    ensures found { IfSome result (λ fault. (other : List ℕ) → HasQueryLabel fault other → other ≡ label.now) }
+    ensures only { (fault : AskFault) → fault ≢ AskFault.NoMemory → label.now ≡ query_label fault → IsSome result }
+    ensures found { IfSome result (λ fault. label.now ≡ query_label fault) }
 {
     match label {
         b"Q1" => Some(AskFault::TooLong),
@@ -182,14 +210,14 @@ fn stream_refusal(label: &[u8]) -> Option<Refusal>
 
 // What else than a name or a declaration is refused by a line of this label.
 fn refused_below(label: &[u8], line: &[u8]) -> Option<Refusal>
-    ensures query { (fault : AskFault) → IsTold fault → HasQueryLabel fault label.now → IsSomeAnd result IsOfQuery }
+    ensures query { (fault : AskFault) → fault ≢ AskFault.NoMemory → label.now ≡ query_label fault → IsSomeAnd result IsOfQuery }
     ensures filled { IfSome result (λ _. label.now ≢ []) }
     ensures called { IfSome result (λ refusal. IsCalled refusal label.now) }
 {
     match label.first()? {
-        b'S' => Some(Refusal::Segment(segment_fault(label, number_of(line))?)),
+        b'S' => Some(Refusal::Segment(segment_fault(label, number_behind(line))?)),
         b'X' => Some(Refusal::File(file_fault(label, behind_word(line))?)),
-        b'Q' => Some(Refusal::Query(query_fault(label, number_of(line))?)),
+        b'Q' => Some(Refusal::Query(query_fault(label, number_behind(line))?)),
         b'B' => stream_refusal(label),
         _ => None,
     }
@@ -197,7 +225,8 @@ fn refused_below(label: &[u8], line: &[u8]) -> Option<Refusal>
 
 // What is refused in a line.
 fn refused(line: &[u8]) -> Option<Refusal>
-    ensures query { (fault : AskFault) → IsTold fault → HasQueryLabel fault (label_in line.now) → IsSomeAnd result IsOfQuery }
+    ensures query { (fault : AskFault) → fault ≢ AskFault.NoMemory → label_in line.now ≡ query_label fault
+        → IsSomeAnd result IsOfQuery }
     ensures filled { IfSome result (λ _. label_in line.now ≢ []) }
     ensures called { IfSome result (λ refusal. IsCalled refusal (label_in line.now)) }
     ensures name { (fault : NameFault) → label_in line.now ≡ name_label fault → result ≡ Some (Refusal.Name fault) }

@@ -8,4 +8,3 @@ mod BesideFacts
 mod CountedFacts
 mod LeadingFacts
 mod Worked
-mod TakenFacts

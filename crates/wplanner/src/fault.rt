@@ -5,6 +5,7 @@ ghost use Rattle.wplanner.specs.Faults.{unanswered};
 use std::alloc::AllocError;
 use thiserror::Error;
 use wrows::AnswerFault;
+use wrules::Rule;
 
 /// Why a query is not answered.
 #[derive(Clone, Copy, Debug, PartialEq, Eq, Error)]
@@ -22,8 +23,8 @@ pub enum AskFault {
     #[error("the tokens spell no query")]
     Syntax,
     /// Q10 to Q28: the least rule that the query breaks.
-    #[error("the query breaks rule {rule}")]
-    Broken { rule: u8 },
+    #[error("the query breaks rule {number}", number = .0.number())]
+    Broken(Rule),
     /// Q40: a number is not strictly between -2^95 and 2^95.
     #[error("a number is out of range")]
     OutOfRange,

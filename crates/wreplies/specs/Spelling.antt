@@ -17,6 +17,7 @@ use Rattle.wentries.specs.declared.status.Status.TheVariants as statuses
 use Rattle.wentries.specs.declared.status.Listed.{Listed}
 use Rattle.wexchange.specs.declared.fault.FileFault.{FileFault}
 use Rattle.wexchange.specs.declared.fault.FileFault.TheVariants as files
+use Rattle.wrules.specs.Rules.{number_of}
 use Rattle.wplanner.specs.declared.fault.AskFault.{AskFault}
 use Rattle.wplanner.specs.declared.fault.AskFault.TheVariants as queries
 
@@ -83,7 +84,7 @@ query_text queries.TooLong = codes "refused Q1\n"
 query_text queries.NotUtf8 = codes "refused Q2\n"
 query_text (queries.At place) = at_number (codes "refused Q3 at ") place
 query_text queries.Syntax = codes "refused Q4\n"
-query_text (queries.Broken rule) = at_number (codes "refused Q") rule
+query_text (queries.Broken rule) = at_number (codes "refused Q") (number_of rule)
 query_text queries.OutOfRange = codes "refused Q40\n"
 query_text queries.TooManyRows = codes "refused Q41\n"
 query_text queries.NoMemory = no_memory

@@ -90,7 +90,7 @@ pub fn refused_query(alloc: Global, fault: AskFault) -> Result<Text, AllocError>
         AskFault::NotUtf8 => Ok(Text::Fixed(b"refused Q2\n")),
         AskFault::At { place } => refused_at(alloc, b"refused Q3 at ", place as u64),
         AskFault::Syntax => Ok(Text::Fixed(b"refused Q4\n")),
-        AskFault::Broken { rule } => refused_at(alloc, b"refused Q", rule as u64),
+        AskFault::Broken(rule) => refused_at(alloc, b"refused Q", u64::from(rule.number())),
         AskFault::OutOfRange => Ok(Text::Fixed(b"refused Q40\n")),
         AskFault::TooManyRows => Ok(Text::Fixed(b"refused Q41\n")),
         AskFault::NoMemory => Ok(Text::Fixed(b"no memory\n")),

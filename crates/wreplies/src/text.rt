@@ -9,7 +9,9 @@ use std::alloc::AllocError;
 /// The bytes of a reply: fixed ones, which take no memory, or such as were made.
 #[derive(Drop)]
 pub enum Text {
+    /// Bytes that stand in the program.
     Fixed(&'static [u8]),
+    /// Bytes that were put together.
     Made(Vec<u8>),
 }
 

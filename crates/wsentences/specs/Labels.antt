@@ -1,5 +1,5 @@
 -- What refusals are called, as they are printed.
-use Rattle.std.specs.Prelude.{◌≡◌, ◌++◌, ◌≤◌, ℕ, List, codes}
+use Rattle.std.specs.Prelude.{◌++◌, ℕ, List, codes}
 use Rattle.std.specs.Fmt.{decimal}
 use Rattle.wvalues.specs.declared.name.NameFault.{NameFault}
 use Rattle.wvalues.specs.declared.name.NameFault.TheVariants as names
@@ -9,6 +9,7 @@ use Rattle.wsegment.specs.declared.fault.SegmentFault.{SegmentFault}
 use Rattle.wsegment.specs.declared.fault.SegmentFault.TheVariants as segments
 use Rattle.wexchange.specs.declared.fault.FileFault.{FileFault}
 use Rattle.wexchange.specs.declared.fault.FileFault.TheVariants as files
+use Rattle.wrules.specs.Rules.{number_of}
 use Rattle.wplanner.specs.declared.fault.AskFault.{AskFault}
 use Rattle.wplanner.specs.declared.fault.AskFault.TheVariants as queries
 
@@ -50,13 +51,13 @@ file_label files.Trailing = codes "X7"
 file_label files.OtherDigest = codes "X8"
 file_label files.NoMemory = codes "no memory"
 
--- a query. A rule of resolution that it breaks has a number from 10 to 28
-abbrev pub HasQueryLabel : AskFault → List ℕ → Type 0
-HasQueryLabel queries.TooLong label = label ≡ codes "Q1"
-HasQueryLabel queries.NotUtf8 label = label ≡ codes "Q2"
-HasQueryLabel (queries.At _) label = label ≡ codes "Q3"
-HasQueryLabel queries.Syntax label = label ≡ codes "Q4"
-HasQueryLabel (queries.Broken rule) label = 10 ≤ rule → rule ≤ 28 → label ≡ codes "Q" ++ decimal rule
-HasQueryLabel queries.OutOfRange label = label ≡ codes "Q40"
-HasQueryLabel queries.TooManyRows label = label ≡ codes "Q41"
-HasQueryLabel queries.NoMemory label = label ≡ codes "no memory"
+-- a query
+abbrev pub query_label : AskFault → List ℕ
+query_label queries.TooLong = codes "Q1"
+query_label queries.NotUtf8 = codes "Q2"
+query_label (queries.At _) = codes "Q3"
+query_label queries.Syntax = codes "Q4"
+query_label (queries.Broken rule) = codes "Q" ++ decimal (number_of rule)
+query_label queries.OutOfRange = codes "Q40"
+query_label queries.TooManyRows = codes "Q41"
+query_label queries.NoMemory = codes "no memory"

@@ -4,7 +4,6 @@ ghost use Rattle.wshown.specs.Shown.{BeginsWith};
 ghost use Rattle.wsentences.specs.Labels.{name_label, table_label};
 
 use crate::lines::{explained, push_file};
-use crate::segment::push_length;
 use crate::sentences::{name_sentence, table_sentence};
 use std::alloc::{AllocError, Global};
 use std::collections::BTreeSet;
@@ -96,7 +95,7 @@ fn push_wrong_line(alloc: Global, text: &mut String, bytes: &[u8]) -> Result<(),
 // Adds why the form of a declaration is another one.
 fn push_form(alloc: Global, text: &mut String, bytes: &[u8]) -> Result<(), AllocError> {
     if bytes.len() > MOST_BYTES {
-        return push_length(text, bytes);
+        return text.push_str("it has more than 65536 bytes");
     }
     push_wrong_line(alloc, text, bytes)
 }

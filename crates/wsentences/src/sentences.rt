@@ -1,10 +1,12 @@
 //! The sentence of each refusal.
-ghost use Rattle.std.specs.Prelude.{◌≡◌, ◌++◌, ◌≤◌, codes};
+ghost use Rattle.std.specs.Prelude.{◌≡◌, ◌++◌, codes};
 ghost use Rattle.std.specs.Fmt.{decimal};
-ghost use Rattle.wsentences.specs.Labels.{HasQueryLabel, file_label, name_label, segment_label, table_label};
+ghost use Rattle.wrules.specs.Rules.{number_of};
+ghost use Rattle.wsentences.specs.Labels.{file_label, name_label, query_label, segment_label, table_label};
 
 use wexchange::FileFault;
 use wplanner::AskFault;
+use wrules::Rule;
 use wsegment::{SchemaFault, SegmentFault};
 use wvalues::NameFault;
 
@@ -320,43 +322,43 @@ pub fn file_sentence(fault: FileFault) -> Sentence
     }
 }
 
-// The sentence of the rule of a number, 10 to 28.
-fn rule_sentence(rule: u8) -> Sentence
-    ensures { 10 ≤ rule → rule ≤ 28 → result.label.now ≡ codes "Q" ++ decimal rule }
+// The sentence of a rule of resolution.
+fn rule_sentence(rule: Rule) -> Sentence
+    ensures { result.label.now ≡ codes "Q" ++ decimal (number_of rule) }
 {
     match rule {
-        10 => Q10,
-        11 => Q11,
-        12 => Q12,
-        13 => Q13,
-        14 => Q14,
-        15 => Q15,
-        16 => Q16,
-        17 => Q17,
-        18 => Q18,
-        19 => Q19,
-        20 => Q20,
-        21 => Q21,
-        22 => Q22,
-        23 => Q23,
-        24 => Q24,
-        25 => Q25,
-        26 => Q26,
-        27 => Q27,
-        _ => Q28,
+        Rule::UnknownTable => Q10,
+        Rule::UnknownColumn => Q11,
+        Rule::AmbiguousName => Q12,
+        Rule::WrongCall => Q13,
+        Rule::WrongType => Q14,
+        Rule::MisplacedWindowCall => Q15,
+        Rule::MisplacedAggregate => Q16,
+        Rule::UngroupedColumn => Q17,
+        Rule::WrongFilter => Q18,
+        Rule::UnknownWindow => Q19,
+        Rule::RepeatedWindow => Q20,
+        Rule::WrongCopy => Q21,
+        Rule::WrongBounds => Q22,
+        Rule::UnorderedGroups => Q23,
+        Rule::WrongRangeKey => Q24,
+        Rule::ZeroCount => Q25,
+        Rule::WrongPlace => Q26,
+        Rule::OverLimit => Q27,
+        Rule::TooManySets => Q28,
     }
 }
 
 /// The sentence of a query that is refused.
 pub fn query_sentence(fault: AskFault) -> Sentence
-    ensures { HasQueryLabel fault result.label.now }
+    ensures { result.label.now ≡ query_label fault }
 {
     match fault {
         AskFault::TooLong => Q1,
         AskFault::NotUtf8 => Q2,
         AskFault::At { .. } => Q3,
         AskFault::Syntax => Q4,
-        AskFault::Broken { rule } => rule_sentence(rule),
+        AskFault::Broken(rule) => rule_sentence(rule),
         AskFault::OutOfRange => Q40,
         AskFault::TooManyRows => Q41,
         AskFault::NoMemory => OUT_OF_MEMORY,

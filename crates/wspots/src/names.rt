@@ -13,6 +13,7 @@ use wclauses::{Clauses, name_at};
 use wgrammar::{Role, follow};
 use wlexer::Token;
 use wquery::{Query, Source};
+use wrules::Rule;
 use wscope::{SourceColumn, declared_columns, has_column, output_columns, place_named};
 use wsegment::Schema;
 
@@ -130,38 +131,38 @@ fn wrong_place(scene: &Scene<'_>, number: usize) -> Option<Breach> {
 }
 
 // What breaks a rule at the mark of this number.
-fn breach_at(scene: &Scene<'_>, number: usize, rule: u8) -> Option<Breach> {
+fn breach_at(scene: &Scene<'_>, number: usize, rule: Rule) -> Option<Breach> {
     match rule {
-        10 => match other_table(scene, number) {
+        Rule::UnknownTable => match other_table(scene, number) {
             Some(breach) => Some(breach),
             None => other_source(scene, number),
         },
-        11 => missing_column(scene, number),
-        12 => ambiguous_name(scene, number),
-        13 => wrong_call(scene, number),
-        15 => misplaced_function(scene, number),
-        16 => misplaced_aggregate(scene, number),
-        17 => ungrouped_column(scene, number),
-        18 => wrong_filter(scene, number),
-        19 => unknown_window(scene, number),
-        20 => repeated_window(scene, number),
-        26 => wrong_place(scene, number),
+        Rule::UnknownColumn => missing_column(scene, number),
+        Rule::AmbiguousName => ambiguous_name(scene, number),
+        Rule::WrongCall => wrong_call(scene, number),
+        Rule::MisplacedWindowCall => misplaced_function(scene, number),
+        Rule::MisplacedAggregate => misplaced_aggregate(scene, number),
+        Rule::UngroupedColumn => ungrouped_column(scene, number),
+        Rule::WrongFilter => wrong_filter(scene, number),
+        Rule::UnknownWindow => unknown_window(scene, number),
+        Rule::RepeatedWindow => repeated_window(scene, number),
+        Rule::WrongPlace => wrong_place(scene, number),
         _ => None,
     }
 }
 
 // What breaks a rule at the token of this number, which is no name.
-fn breach_at_token(scene: &Scene<'_>, number: usize, rule: u8) -> Option<Breach> {
+fn breach_at_token(scene: &Scene<'_>, number: usize, rule: Rule) -> Option<Breach> {
     match rule {
-        13 => long_grouping(scene, number),
-        16 => misplaced_grouping(scene, number),
-        17 => ungrouped_star(scene, number),
+        Rule::WrongCall => long_grouping(scene, number),
+        Rule::MisplacedAggregate => misplaced_grouping(scene, number),
+        Rule::UngroupedColumn => ungrouped_star(scene, number),
         _ => None,
     }
 }
 
 // The first name of a SELECT that breaks a rule.
-fn first_name(scene: &Scene<'_>, rule: u8) -> Option<Breach> {
+fn first_name(scene: &Scene<'_>, rule: Rule) -> Option<Breach> {
     'marks: for number in 0..scene.marks.len() {
         let breach = breach_at(scene, number, rule);
         if breach.is_some() {
@@ -172,8 +173,11 @@ fn first_name(scene: &Scene<'_>, rule: u8) -> Option<Breach> {
 }
 
 // The first other token of a SELECT that breaks a rule.
-fn first_token(scene: &Scene<'_>, rule: u8) -> Option<Breach> {
-    if !matches!(rule, 13 | 16 | 17) {
+fn first_token(scene: &Scene<'_>, rule: Rule) -> Option<Breach> {
+    if !matches!(
+        rule,
+        Rule::WrongCall | Rule::MisplacedAggregate | Rule::UngroupedColumn
+    ) {
         return None;
     }
     'tokens: for number in 0..scene.tokens.len() {
@@ -195,7 +199,7 @@ fn earlier(one: Option<Breach>, other: Option<Breach>) -> Option<Breach> {
 }
 
 // The first place in a SELECT where a rule is broken, and what is told of it.
-fn find_in(alloc: Global, scene: &Scene<'_>, rule: u8) -> Result<Option<Spot>, AllocError> {
+fn find_in(alloc: Global, scene: &Scene<'_>, rule: Rule) -> Result<Option<Spot>, AllocError> {
     let Some((token, told)) = earlier(first_name(scene, rule), first_token(scene, rule)) else {
         return Ok(None);
     };
@@ -225,7 +229,7 @@ fn find_over(
     columns: &[SourceColumn],
     select: &Query,
     level: usize,
-    rule: u8,
+    rule: Rule,
 ) -> Result<Option<Spot>, AllocError> {
     let scene = Scene::new(alloc, written, columns, select, level)?;
     find_in(alloc, &scene, rule)
@@ -236,7 +240,7 @@ fn find_written(
     alloc: Global,
     written: Written<'_>,
     query: &Query,
-    rule: u8,
+    rule: Rule,
 ) -> Result<Option<Spot>, AllocError> {
     let selects = selects_of(alloc, query)?;
     let mut columns = declared_columns(alloc, written.schema)?;
@@ -260,7 +264,7 @@ pub(crate) fn find_name(
     schema: &Schema,
     tokens: &[Token],
     query: &Query,
-    rule: u8,
+    rule: Rule,
 ) -> Result<Option<Spot>, AllocError> {
     let followed = follow(alloc, tokens)?;
     let clauses = Clauses::new(alloc, tokens)?;

@@ -7,6 +7,7 @@ use std::alloc::{AllocError, Global};
 use wgrammar::{Stop, follow};
 use wlexer::{Keyword, Lexeme, Token};
 use wparser::parse;
+use wrules::Rule;
 use wsegment::Schema;
 use wshown::push_place;
 
@@ -112,15 +113,14 @@ fn push_spot(
     }
 }
 
-/// Adds where a query breaks a rule of this number, 10 to 28, where a name tells it: its line with a caret below the name, and what
-/// is meant there.
+/// Adds where a query breaks this rule, where a name tells it: its line with a caret below the name, and what is meant there.
 pub fn push_breach(
     alloc: Global,
     text: &mut String,
     schema: &Schema,
     query: &[u8],
     tokens: &[Token],
-    rule: u8,
+    rule: Rule,
 ) -> Result<(), AllocError>
     ensures { OnOk result (MayPoint query.now (string_bytes text.old) (string_bytes text.new)) }
 {
