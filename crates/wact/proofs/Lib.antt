@@ -2,3 +2,4 @@ pub mod Outcomes
 pub mod Replying
 pub mod Delivering
 pub mod LongFacts
+pub mod LongTables

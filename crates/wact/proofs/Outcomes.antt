@@ -14,6 +14,7 @@ use Rattle.wact.specs.declared.acted.Acted.{Acted}
 use Rattle.wact.specs.Outcomes.{IsStored}
 use Rattle.wcommand.specs.declared.choice.Choice.{Choice}
 use Rattle.wact.specs.Acts.{Acts, ActsRead, Knows, MayLack, MayLackRead}
+use Rattle.wact.specs.Opening.{MayLackOpening, MayLackReading}
 
 -- what follows from a value holds of an answer that is there
 pub if_ok : {A E : Type 0} {P Q : A → Type 0} (r : Result A E) → ((v : A) → P v → Q v) → IfOk r P → IfOk r Q
@@ -63,9 +64,9 @@ pub at_err : {A E : Type 0} {P : Type 0} (r : Result A E) → P → OnErr r P
 at_err (Ok v) p = tt
 at_err (Err e) p = p
 
--- bytes whose fault is no fault of their form are no more than a declaration may have
-pub short_by : {A : Type 0} (n : ℕ) (r : Result A SchemaFault) → (65536 < n → r ≡ Err tables.Syntax) → r ≢ Err tables.Syntax → n ≤ 65536
-short_by n r long other = ⊎_elim (λ more. absurd (other (long more))) (λ few. few) (cases_lt 65536 n)
+-- bytes of which no more are refused so are no more than that
+pub short_by : {A F : Type 0} (most n : ℕ) (r : Result A F) (fault : F) → (most < n → r ≡ Err fault) → r ≢ Err fault → n ≤ most
+short_by most n r fault long other = ⊎_elim (λ more. absurd (other (long more))) (λ few. few) (cases_lt most n)
 
 abbrev is_memory : SchemaFault → Bool
 is_memory tables.NoMemory = true
@@ -91,3 +92,22 @@ lacks choice table store other declared r reads long = on_err r (λ lack. record
   short = short_enough choice store other (length table) declared long lack;
   lacks = lack;
 })
+
+-- the table that is opened
+opening_short : (store : Option (List ℕ)) (n : ℕ) (declared : Result Declaration SchemaFault)
+    → (65536 < n → declared ≡ Err tables.Syntax) → MayLackReading declared store → n ≤ 65536
+opening_short store n declared long lack = ⊎_elim
+    (λ more. absurd (true≢false (sym (ap is_memory (subst (λ r. MayLackReading r store) (long more) lack)))))
+    (λ few. few)
+    (cases_lt 65536 n)
+
+-- where memory is wanting while a table is opened, or behind it
+pub lacks_opening : (table : List ℕ) (store : Option (List ℕ)) (declared : Result Declaration SchemaFault)
+    → ReadsDeclaration table declared → (65536 < length table → declared ≡ Err tables.Syntax) → MayLackReading declared store
+    → MayLackOpening table store
+lacks_opening table store declared reads long lack = record {
+  declared = declared;
+  reads = reads;
+  short = opening_short store (length table) declared long lack;
+  lacks = lack;
+}

@@ -1,5 +1,5 @@
 -- What each subcommand does.
-use Rattle.std.specs.Prelude.{◌≡◌, ◌≢◌, ⊤, ℕ, List, Option, Some, None, Result, Ok, Err, IsOk, ◌≤◌, length, codes, map}
+use Rattle.std.specs.Prelude.{◌≡◌, ◌≢◌, ⊤, ℕ, true, List, Option, Some, None, Result, Ok, Err, IsOk, ◌≤◌, length, codes, map}
 use Rattle.std.specs.FinMap.{empty, entries}
 use Rattle.wvalues.specs.Names.{NameParts}
 use Rattle.wvalues.specs.NameReading.{ReadsName}
@@ -18,7 +18,7 @@ use Rattle.wexchange.specs.Judging.{HasTable, IsFault, IsFileOf}
 use Rattle.wexchange.specs.declared.fault.FileFault.{FileFault}
 use Rattle.wexchange.specs.declared.fault.FileFault.TheVariants as files
 use Rattle.wscript.specs.Commands.{AreName}
-use Rattle.wreplies.specs.Spelling.{file_text, name_text, names_text, retired_text, segment_text, table_text, taken_text}
+use Rattle.wreplies.specs.Spelling.{file_text, has_row, name_text, names_text, retired_text, segment_text, table_text, taken_text}
 use Rattle.wcommand.specs.declared.choice.Choice.{Choice}
 use Rattle.wcommand.specs.declared.choice.Choice.TheVariants as choices
 use Rattle.wact.specs.declared.acted.Acted.{Acted}
@@ -69,10 +69,11 @@ ActsOn d v (choices.List paths) old other acted = Lists d v acted
 ActsOn d v (choices.Ask paths queries) old other acted = Asks d v (map (λ query. query.now) queries.items) acted
 ActsOn d v (choices.Shell paths) old other acted = ⊥
 
--- where it may find no memory then: a name that is none needs none, nor does another store before its declaration
+-- where it may find no memory then: a name that is none needs none, nor does CSV with more bytes than a segment may have, nor another
+-- store before its declaration
 abbrev pub MayLackOn : Declaration → Choice → List ℕ → Type 0
 MayLackOn d choices.Session other = ⊥
-MayLackOn d (choices.Take paths origin number csv) other = AreName origin.now number.now
+MayLackOn d (choices.Take paths origin number csv) other = AreName origin.now number.now × (length other ≤ 67108864)
 MayLackOn d (choices.Retire paths origin number) other = AreName origin.now number.now
 MayLackOn d (choices.Floor paths origin number) other = AreName origin.now number.now
 MayLackOn d (choices.Join paths path) other = HasTable d other
@@ -114,11 +115,14 @@ pub record Acts (choice : Choice) (table : List ℕ) (store : Option (List ℕ))
   pub reads : ReadsDeclaration table declared
   pub acts : ActsRead declared choice store other acted
 
--- where it may find no memory once the table is read: in a store behind its declaration, in telling what is wrong with a segment of
--- it, or then in the subcommand
+-- where a store may find no memory: it is read behind its declaration, or a segment of it is refused with the number of a row
+pub data MayLackIn (d : Declaration) (store : Option (List ℕ)) : Type 0 where
+  InReading : HasFault d store files.NoMemory → MayLackIn d store
+  InRefusal : (fault : SegmentFault) → has_row fault ≡ true → HasFault d store (files.Segment fault) → MayLackIn d store
+
+-- where it may find no memory once the table is read: in the store, or then in the subcommand
 pub data MayLackBy (d : Declaration) (choice : Choice) (store : Option (List ℕ)) (other : List ℕ) : Type 0 where
-  InStore : HasFault d store files.NoMemory → MayLackBy d choice store other
-  InRefusal : (fault : SegmentFault) → HasFault d store (files.Segment fault) → MayLackBy d choice store other
+  InStore : MayLackIn d store → MayLackBy d choice store other
   InSubcommand : (v : View) → Knows d store v → MayLackOn d choice other → MayLackBy d choice store other
 
 -- a declaration that is refused needs none

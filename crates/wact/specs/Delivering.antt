@@ -1,12 +1,12 @@
 -- What a node is told while a batch is delivered.
-use Rattle.std.specs.Prelude.{◌≡◌, ⊤, ℕ, List, ◌++◌, codes}
+use Rattle.std.specs.Prelude.{◌≡◌, ⊤, ℕ, true, List, ◌++◌, codes}
 use Rattle.wset.specs.Items.{Item}
 use Rattle.wstore.specs.Nodes.{NodeState}
 use Rattle.wbatch.specs.declared.stop.Stop.{Stop}
 use Rattle.wbatch.specs.declared.stop.Stop.TheVariants as stops
 use Rattle.wcommand.specs.declared.choice.Choice.{Choice}
 use Rattle.wcommand.specs.declared.choice.Choice.TheVariants as choices
-use Rattle.wreplies.specs.Spelling.{segment_text}
+use Rattle.wreplies.specs.Spelling.{has_row, segment_text}
 use Rattle.wact.specs.declared.acted.Acted.{Acted}
 use Rattle.wact.specs.Outcomes.{IsRefused}
 use Rattle.wact.specs.Streams.{delivered_view, lines_text}
@@ -22,6 +22,12 @@ abbrev pub IsRefusedSo : Stop → Acted → Type 0
 IsRefusedSo (stops.Segment fault) acted = IsRefused acted (segment_text fault)
 IsRefusedSo stops.Bad acted = IsRefused acted (codes "refused B1\n")
 IsRefusedSo stops.NoMemory acted = ⊥
+
+-- why telling it may find no memory: it stopped for want of that, or a segment is refused with the number of a row
+abbrev pub MayLackSo : Stop → Type 0
+MayLackSo (stops.Segment fault) = has_row fault ≡ true
+MayLackSo stops.Bad = ⊥
+MayLackSo stops.NoMemory = ⊤
 
 -- a stream is fed
 abbrev pub IsFeed : Choice → Type 0

@@ -1,5 +1,5 @@
 //! Subcommands on bytes.
-ghost use Rattle.std.specs.Prelude.{◌≡◌, true, IfOk, OnErr, option_map};
+ghost use Rattle.std.specs.Prelude.{◌≡◌, ◌≤◌, true, IfOk, OnErr, length, option_map};
 ghost use Rattle.wcommand.specs.Inputs.{is_act};
 ghost use Rattle.wexchange.specs.Judging.{HasTable};
 ghost use Rattle.wreplies.specs.Spelling.{name_text};
@@ -7,6 +7,7 @@ ghost use Rattle.wscript.specs.Commands.{AreName};
 ghost use Rattle.wact.specs.Outcomes.{IsRefused};
 ghost use Rattle.wact.specs.Acts.{Acts, ActsBy, ActsOn, ActsRead, Joins, Lists, MayLack, MayLackBy};
 ghost use Rattle.wact.specs.Acts.{MayLackOn, MayLackRead, OnName, Retires, RetiresTo, Takes};
+ghost use Rattle.wact.specs.Opening.{purpose_of};
 
 use crate::acted::{Acted, answered, refused, stored};
 use crate::feeding::feed;
@@ -30,7 +31,8 @@ fn take_under(
     name: Name,
     csv: &[u8],
 ) -> Result<Acted, AllocError>
-    ensures { IfOk result (λ acted. Takes node.old.schema node.old.view old.now csv.now acted name) }
+    ensures takes { IfOk result (λ acted. Takes node.old.schema node.old.view old.now csv.now acted name) }
+    ensures lacks { OnErr result (length csv.now ≤ 67108864) }
 {
     match node.take(name, csv) {
         Ok(word) => stored(node, old, Text::Fixed(taken(word))),
@@ -72,7 +74,7 @@ fn take(
 ) -> Result<Acted, AllocError>
     ensures does { IfOk result (λ acted. OnName origin.now number.now acted (Takes node.old.schema node.old.view
         old.now csv.now acted)) }
-    ensures lacks { OnErr result (AreName origin.now number.now) }
+    ensures lacks { OnErr result (AreName origin.now number.now × (length csv.now ≤ 67108864)) }
 {
     match Name::read(origin.as_bytes(), number.as_bytes()) {
         Ok(name) => take_under(alloc, node, old, name, csv),
@@ -164,7 +166,9 @@ fn act_on(
 }
 
 // What a subcommand opens a node for.
-fn purpose_of(choice: &Choice<'_>) -> Purpose {
+fn purpose_of(choice: &Choice<'_>) -> Purpose
+    ensures { result ≡ purpose_of choice.now }
+{
     match choice {
         Choice::Ask { .. } => Purpose::Asking,
         _ => Purpose::Telling,

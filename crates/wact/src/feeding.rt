@@ -1,5 +1,5 @@
 //! Feeds a store the deliveries of a stream.
-ghost use Rattle.std.specs.Prelude.{◌≡◌, ◌≢◌, ◌++◌, ◌∷◌, [], None, Ok, false, map, IfErr, IfOk, OnErr, OnOk};
+ghost use Rattle.std.specs.Prelude.{◌≡◌, ◌++◌, ◌∷◌, [], None, Ok, false, map, IfErr, IfOk, OnErr, OnOk};
 ghost use Rattle.std.specs.List.{AllByRecursion};
 ghost use Rattle.wsegment.specs.Spelling.{ReadsDeclaration};
 ghost use Rattle.wset.specs.Items.{SegmentItem, view_of_item};
@@ -9,11 +9,10 @@ ghost use Rattle.wset.specs.Words.{taken_word};
 ghost use Rattle.wbatch.specs.Batches.{stream_of};
 ghost use Rattle.wbatch.specs.Deliveries.{IsReady, item_of};
 ghost use Rattle.wbatch.specs.Streams.{IsUndelivered};
-ghost use Rattle.wbatch.specs.declared.stop.Stop.TheVariants as stops;
 ghost use Rattle.wcommand.specs.declared.choice.Choice.{Choice};
 ghost use Rattle.wstore.specs.Replies.{fed_text};
 ghost use Rattle.wact.specs.Acts.{Acts};
-ghost use Rattle.wact.specs.Delivering.{Delivers, IsFeed, IsRefusedSo};
+ghost use Rattle.wact.specs.Delivering.{Delivers, IsFeed, IsRefusedSo, MayLackSo};
 ghost use Rattle.wact.specs.Streams.{Feeds, delivered_view};
 
 use crate::acted::{Acted, refused, stored};
@@ -84,10 +83,10 @@ fn add_count(text: &mut Vec<u8>, count: usize) -> Result<(), AllocError>
 }
 
 /// What feeding a stream gives that is not delivered. Nothing of it is stored. `AllocError`: memory ran out while it was read, or a
-/// growth was refused, as only the text of a segment's fault may need one.
+/// growth was refused, as only a refusal with the number of a row may need one.
 pub fn undelivered(alloc: Global, reason: Stop) -> Result<Acted, AllocError>
     ensures refused { IfOk result (IsRefusedSo reason) }
-    ensures lacks { OnErr result (reason ≢ stops.Bad) }
+    ensures lacks { OnErr result (MayLackSo reason) }
 {
     match reason {
         Stop::Segment(fault) => {
@@ -100,7 +99,7 @@ pub fn undelivered(alloc: Global, reason: Stop) -> Result<Acted, AllocError>
 }
 
 /// What feeding a stream gives on a node that knows the store, which has these bytes, if it is there. The batch was filled from
-/// the whole stream, under the declaration of the node. `AllocError`: a growth was refused.
+/// the whole stream, under the declaration of the node, and has not stopped. `AllocError`: a growth was refused.
 pub fn feed_node(
     alloc: Global,
     node: &mut Node,
@@ -108,6 +107,7 @@ pub fn feed_node(
     batch: &Batch,
 ) -> Result<Acted, AllocError>
     requires declared { batch.now.schema ≡ node.old.schema }
+    requires goes_on { batch.now.stopped ≡ None }
     requires whole { batch.now.held ≡ [] }
     ensures feeds { IfOk result (λ acted. Feeds node.old.schema node.old.view store.now
         (stream_of batch.now) acted) }
@@ -122,7 +122,7 @@ pub fn feed_node(
 }
 
 /// What feeding a stream gives on the bytes of the table's file and of the store's, if there is one. The batch was filled from
-/// the whole stream, under this table's declaration. `AllocError`: a growth was refused.
+/// the whole stream, under this table's declaration, and has not stopped. `AllocError`: a growth was refused.
 pub fn feed_store(
     alloc: Global,
     table: &[u8],
@@ -130,6 +130,7 @@ pub fn feed_store(
     batch: &Batch,
 ) -> Result<Acted, AllocError>
     requires declared { ReadsDeclaration table.now (Ok batch.now.schema) }
+    requires goes_on { batch.now.stopped ≡ None }
     requires whole { batch.now.held ≡ [] }
     ensures { IfOk result (λ acted. (choice : Choice) → IsFeed choice
         → Acts choice table.now store.now (stream_of batch.now) acted) }
@@ -144,6 +145,7 @@ pub fn feed_store(
 fn fill(batch: &mut Batch, stream: &[u8]) -> Result<(), Stop>
     requires new { batch.old ≡ record { schema = batch.old.schema; items = []; held = []; stopped = None } }
     ensures schema { batch.new.schema ≡ batch.old.schema }
+    ensures goes_on { OnOk result (batch.new.stopped ≡ None) }
     ensures whole { OnOk result (batch.new.held ≡ []) }
     ensures stream { OnOk result (stream_of batch.new ≡ stream.now) }
     ensures stops { IfErr result (IsUndelivered batch.old.schema stream.now) }

@@ -1,7 +1,12 @@
-//! The laws of subcommands. The function does nothing when run: it is the proof of its contract.
-ghost use Rattle.wact.specs.Laws.{LongIsRefusedAlike};
+//! The laws of subcommands. These functions do nothing when run: they are the proofs of their contracts.
+ghost use Rattle.wact.specs.Laws.{LongIsRefusedAlike, LongTableIsRefusedAlike};
 
 /// Where CSV has more bytes than a segment may have, what is told of the first of them, more than so many, is told of all.
 pub fn long_is_refused_alike()
     ensures { LongIsRefusedAlike }
+{}
+
+/// Where a table has more bytes than a declaration may have, what is told of the first of them, more than so many, is told of all.
+pub fn long_table_is_refused_alike()
+    ensures { LongTableIsRefusedAlike }
 {}

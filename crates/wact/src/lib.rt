@@ -6,7 +6,7 @@
 //!   knows the store is told, and prints the reply of a script's command, of a query the answer alone. A refusal has
 //!   status 1 and no new store.
 //! - Asks: of `act`, a choice other than the session and the shell; of `feed_store` and `feed_node`, a batch of the table's
-//!   declaration that is whole.
+//!   declaration that is whole and has not stopped.
 //! - Leaves files and streams to the program, words to `wcommand`, and nodes to `wstore`.
 //!
 //! Read `specs/Outcomes.antt`, then `specs/Acts.antt`.
@@ -22,6 +22,6 @@ mod queries;
 pub use acted::{Acted, refused};
 pub use acting::act;
 pub use feeding::{feed_node, feed_store, undelivered};
-pub use laws::long_is_refused_alike;
+pub use laws::{long_is_refused_alike, long_table_is_refused_alike};
 pub use opening::{Opened, Purpose, hashed, open_store};
 pub use queries::{QueryReply, reply};

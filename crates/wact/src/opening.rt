@@ -1,9 +1,9 @@
 //! The node of a table and a store.
-ghost use Rattle.std.specs.Prelude.{◌≡◌, ◌≤◌, IfErr, IfOk, OnErr, length, option_map};
+ghost use Rattle.std.specs.Prelude.{◌≡◌, IfErr, IfOk, OnErr, option_map};
 ghost use Rattle.std.specs.FinMap as map;
 ghost use Rattle.wstore.specs.Nodes.{fresh_node};
-ghost use Rattle.wact.specs.Acts.{HasFault, Knows};
-ghost use Rattle.wact.specs.Opening.{Opens, OpensBy};
+ghost use Rattle.wact.specs.Acts.{HasFault, Knows, MayLackIn};
+ghost use Rattle.wact.specs.Opening.{MayLackOpening, Opens, OpensBy};
 
 use std::alloc::{AllocError, Global};
 use wexchange::{FileFault, Hashed};
@@ -77,7 +77,8 @@ fn open_by(
     store: &Option<Hashed<'_>>,
     purpose: Purpose,
 ) -> Result<Opened, AllocError>
-    ensures { IfOk result (λ opened. OpensBy schema store.now opened) }
+    ensures opens { IfOk result (λ opened. OpensBy schema store.now opened) }
+    ensures lacks { OnErr result (MayLackIn schema store.now) }
 {
     match node_of(alloc, schema, store, purpose) {
         Ok(node) => Ok(Opened::Node(node)),
@@ -87,7 +88,8 @@ fn open_by(
 }
 
 /// The node of a store, of which the bytes of the table's file and of the store's are lent, if there is one. The table is
-/// judged first. `AllocError`: a growth was refused, as none is for a table of over 65,536 bytes.
+/// judged first. `AllocError`: memory ran out while the table was read, or the table is a declaration, and memory ran out while the
+/// store was read behind that, or in telling at which row a segment of it is refused.
 pub fn open_store(
     alloc: Global,
     table: &[u8],
@@ -95,7 +97,7 @@ pub fn open_store(
     purpose: Purpose,
 ) -> Result<Opened, AllocError>
     ensures opens { IfOk result (λ opened. Opens table.now store.now opened) }
-    ensures lacks { OnErr result (length table.now ≤ 65536) }
+    ensures lacks { OnErr result (MayLackOpening table.now store.now) }
 {
     match Schema::read(alloc, table) {
         Ok(schema) => open_by(alloc, schema, store, purpose),

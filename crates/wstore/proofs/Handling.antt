@@ -118,7 +118,7 @@ line_told d v w (SegmentItem n b) (replies.Refused fault) text t (inr is) = reco
   item_is = refl;
   answers = t.2;
   view_is = λ s. t.1 ∙ join_nothing v s;
-  text_is = is;
+  text_is = is.1;
 }
 line_told d v w (SegmentItem n b) (replies.Retired word) text t is = absurd t
 line_told d v w (SegmentItem n b) replies.NoMemory text t is = record {

@@ -8,16 +8,16 @@ use Rattle.wstore.specs.Replies as history
 use Rattle.wstore.specs.History.{Step, Answers}
 use Rattle.wstore.specs.Standing.{Places, StandAt}
 use Rattle.wstore.specs.Replies.{text_of, Line, line_text, fed_text}
-use Rattle.wreplies.specs.Spelling.{taken_text, retired_text, segment_text, no_memory}
+use Rattle.wreplies.specs.Spelling.{taken_text, retired_text, segment_text, has_row, no_memory}
 use Rattle.wstore.specs.Nodes.{NodeState, HandlesLines, HandlesAll}
 use Rattle.wstore.specs.declared.node.Reply.{Reply}
 use Rattle.wstore.specs.declared.node.Reply.TheVariants as replies
 
--- how it is spelled; a refusal that finds no memory is told as a message that found none
+-- how it is spelled; a refusal that is told with a row may find no memory, and is told as a message that found none then
 abbrev pub IsTextOf : Reply → List ℕ → Type 0
 IsTextOf (replies.Taken word) text = text ≡ taken_text word
 IsTextOf (replies.Retired word) text = text ≡ retired_text word
-IsTextOf (replies.Refused fault) text = (text ≡ segment_text fault) ⊎ (text ≡ no_memory)
+IsTextOf (replies.Refused fault) text = (text ≡ segment_text fault) ⊎ ((has_row fault ≡ true) × (text ≡ no_memory))
 IsTextOf replies.NoMemory text = text ≡ no_memory
 
 -- the messages that are whole were handled, and all that they are told was written

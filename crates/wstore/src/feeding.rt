@@ -16,7 +16,8 @@ use wreplies::{Text, refused_segment, retired, taken};
 use wstream::PushFault;
 use wvalues::Counted;
 
-// What a message was told, as it is spelled. A refusal that finds no memory is told as a message that found none.
+// What a message was told, as it is spelled. A refusal with the number of a row that finds no memory is told as a message that found
+// none; any other needs none.
 fn reply_text(alloc: Global, reply: Reply) -> Text
     ensures { IsTextOf reply (bytes_of result) }
 {

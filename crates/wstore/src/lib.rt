@@ -28,3 +28,4 @@ mod slot;
 pub use node::{Node, Reply};
 pub use script_run::{End, RunFault, run};
 pub use wask::AskFault;
+pub use wrules::Rule;
