@@ -8,8 +8,9 @@ use Rattle.wcommand.specs.declared.choice.Choice.{Choice}
 use Rattle.wcommand.specs.declared.choice.Paths.{Paths}
 use Rattle.wcommand.specs.Inputs.{input_of, paths_of}
 use Rattle.wfolder.specs.Call.{Call, Began, Found, Locked}
+use Rattle.wfiles.specs.Place.{MissesFile, read_at}
 use Rattle.wfiles.specs.Reading.{MayBegin, ReadsAtMost, Front, Whole}
-use Rattle.wfolder.specs.Names.{Site}
+use Rattle.wfolder.specs.Names.{IsSited, Site}
 use Rattle.wfolder.specs.Replacing.{fault_of}
 use Rattle.wfolder.specs.declared.fault.Fault.{Fault}
 use Rattle.wfolder.specs.declared.fault.Fault.TheVariants as faults
@@ -21,7 +22,7 @@ use Rattle.wstore_program.specs.Performing.{Bytes, Input, Long, IsDone, IsGivenU
 use Rattle.wstore_program.specs.Performing.{OnlyReads, Put, Puts, ReadsInput, ReadsBytes, CarriesOut, Undone, Unfound, Unread, Unready}
 use Rattle.wstore_program.specs.Working.{store_bytes}
 use Rattle.wstore_program.specs.Performing.{IsEnded, IsFinished, NotCarriedOut, Performs, Untouched, input_path, new_store}
-use Rattle.wstore_program.specs.Performing.{read_files, read_locked}
+use Rattle.wstore_program.specs.Performing.{ReadsFiles, read_locked}
 
 -- where a call gives a fault
 pub on_err : {A E : Type 0} {P : Type 0} (r : Result A E) → P → OnErr r P
@@ -65,6 +66,21 @@ begins_behind name path held old read new is (inr more) = record {
   readings = tt;
 }
 
+-- the same behind one of which no more than so many bytes are wanted
+pub begins_behind_most : (name path : List ℕ) (most : ℕ) (bytes : List ℕ) (old read new : List Call)
+    → ReadsAtMost name most bytes old read → MayBegin path read new → OnlyReads old new
+begins_behind_most name path most bytes old read new (Whole is) begun = begins_behind name path (Some bytes) old read new is begun
+begins_behind_most name path most bytes old read new (Front long is) (inl same) = record {
+  since = Began name bytes ∷ [];
+  is = same ∙ is;
+  readings = tt;
+}
+begins_behind_most name path most bytes old read new (Front long is) (inr more) = record {
+  since = Began path more.0 ∷ Began name bytes ∷ [];
+  is = more.1 ∙ ap (λ cs. Began path more.0 ∷ cs) is;
+  readings = tt;
+}
+
 -- the path of an input that is there
 pub path_is : (choice : Choice) (path : Bor (List ℕ)) → input_of choice ≡ Some path → input_path choice ≡ Some path.now
 path_is choice path is = ap (option_map (λ (p : Bor (List ℕ)). p.now)) is
@@ -92,32 +108,41 @@ input_unread path old new (Err fault) begun = begins path old new begun
 
 -- ---- what becomes of the store
 
+-- the lock, which is of the folder that the site has still
+locked_still : (site : Site) (folder : List ℕ) (old locked : List Call) → site.folder ≡ folder → locked ≡ Locked folder true ∷ old
+    → locked ≡ Locked site.folder true ∷ old
+locked_still site folder old locked same l = l ∙ ap (λ at. Locked at true ∷ old) (sym same)
+
 -- the lock, then the reading
-pub found_locked : (path : List ℕ) (held : Option (List ℕ)) (old locked read : List Call) → locked ≡ Locked true ∷ old
-    → read ≡ Found path held ∷ locked → read ≡ read_locked path held old
-found_locked path held old locked read l r = r ∙ ap (λ cs. Found path held ∷ cs) l
+pub found_locked : (site : Site) (folder : List ℕ) (held : Option (List ℕ)) (old locked read : List Call) → site.folder ≡ folder
+    → locked ≡ Locked folder true ∷ old → read ≡ read_at site held locked → read ≡ read_locked site held old
+found_locked site folder held old locked read same l r = r ∙ ap (read_at site held) (locked_still site folder old locked same l)
 
 -- a store that is not read to its end
-pub unfound : (choice : Choice) (table other path : List ℕ) (fault : Fault) (old locked new : List Call)
-    → locked ≡ Locked true ∷ old → MayBegin path locked new → IsNotCarriedOut choice table other fault old new
-unfound choice table other path fault old locked new l begun = Unfound path (subst (λ cs. MayBegin path cs new) l begun)
+pub unfound : (choice : Choice) (table other : List ℕ) (site : Site) (folder : List ℕ) (fault : Fault) (old locked new : List Call)
+    → site.folder ≡ folder → locked ≡ Locked folder true ∷ old → MissesFile site locked new
+    → IsNotCarriedOut choice table other fault old new
+unfound choice table other site folder fault old locked new same l begun =
+    Unfound site (subst (λ cs. MissesFile site cs new) (locked_still site folder old locked same l) begun)
 
 -- a new store is put in the place of what was read
 pub put_in_place : (choice : Choice) (acted : Acted) (table : List ℕ) (store held : Option (List ℕ)) (other : List ℕ) (site : Site)
-    (old locked read new : List Call) → Acts choice table held other acted → locked ≡ Locked true ∷ old
-    → read ≡ Found site.path held ∷ locked → Puts site (new_store acted) (Ok tt) read new
+    (folder : List ℕ) (old locked read new : List Call) → IsSited site → Acts choice table held other acted → site.folder ≡ folder
+    → locked ≡ Locked folder true ∷ old → read ≡ read_at site held locked → Puts site (new_store acted) (Ok tt) read new
     → CarriesOut choice table store other acted old new
-put_in_place choice acted table store held other site old locked read new acts l r puts =
-    Put site held acts (subst (λ cs. Puts site (new_store acted) (Ok tt) cs new) (found_locked site.path held old locked read l r) puts)
+put_in_place choice acted table store held other site folder old locked read new sited acts same l r puts =
+    Put site held sited acts (subst (λ cs. Puts site (new_store acted) (Ok tt) cs new)
+    (found_locked site folder held old locked read same l r) puts)
 
 -- a new store is not put there
 pub not_put : (choice : Choice) (acted : Acted) (table : List ℕ) (held : Option (List ℕ)) (other : List ℕ) (site : Site)
-    (old locked read new : List Call) (why : NotReplaced) (fault : Fault) → Acts choice table held other acted
-    → locked ≡ Locked true ∷ old → read ≡ Found site.path held ∷ locked → Puts site (new_store acted) (Err why) read new
-    → fault ≡ fault_of why → IsNotCarriedOut choice table other fault old new
-not_put choice acted table held other site old locked read new why fault acts l r puts is =
-    NotPut held acted site why acts is (subst (λ cs. Puts site (new_store acted) (Err why) cs new)
-    (found_locked site.path held old locked read l r) puts)
+    (folder : List ℕ) (old locked read new : List Call) (why : NotReplaced) (fault : Fault) → IsSited site
+    → Acts choice table held other acted → site.folder ≡ folder → locked ≡ Locked folder true ∷ old
+    → read ≡ read_at site held locked → Puts site (new_store acted) (Err why) read new → fault ≡ fault_of why
+    → IsNotCarriedOut choice table other fault old new
+not_put choice acted table held other site folder old locked read new why fault sited acts same l r puts is =
+    NotPut held acted site why sited acts is (subst (λ cs. Puts site (new_store acted) (Err why) cs new)
+    (found_locked site folder held old locked read same l r) puts)
 
 none_mapped : {A B : Type 0} (f : A → B) (o : Option A) → is_some o ≡ false → option_map f o ≡ None
 none_mapped f None e = refl
@@ -172,27 +197,26 @@ ended_on_bytes choice table store lent other old read new r same input finished 
     (Bytes (subst (λ (bytes : List ℕ). ReadsBytes choice bytes old read) (sym same) input)) finished
 
 -- the files that the words name are read
-files_read : (paths : Paths) (table : List ℕ) (store : Option (List ℕ)) (old first read : List Call)
-    → first ≡ Found paths.table.now (Some table) ∷ old → read ≡ Found paths.store.now store ∷ first
-    → read ≡ read_files paths table store old
-files_read paths table store old first read t s = s ∙ ap (λ cs. Found paths.store.now store ∷ cs) t
+pub files_read : (paths : Paths) (table : List ℕ) (store : Option (List ℕ)) (old first read : List Call)
+    → ReadsAtMost paths.table.now 65536 table old first → read ≡ Found paths.store.now store ∷ first
+    → ReadsFiles paths table store old read
+files_read paths table store old first read t s = record { between = first; table_read = t; store_read = s }
 
 pub performed_by : (choice : Choice) (paths : Paths) (lent table : List ℕ) (store : Option (List ℕ))
     (old first read new : List Call) (r : Result Acted Fault) → paths_of choice ≡ Some paths → lent ≡ table
-    → first ≡ Found paths.table.now (Some table) ∷ old → read ≡ Found paths.store.now store ∷ first
+    → ReadsAtMost paths.table.now 65536 table old first → read ≡ Found paths.store.now store ∷ first
     → IsEnded choice lent store r read new → Performs choice r old new
 performed_by choice paths lent table store old first read new (Err fault) named same t s undone =
-    Undone paths table store named
-    (subst (λ cs. IsUndone choice table store fault cs new) (files_read paths table store old first read t s)
-    (subst (λ (bytes : List ℕ). IsUndone choice bytes store fault read new) same undone))
+    Undone paths table store read named (files_read paths table store old first read t s)
+    (subst (λ (bytes : List ℕ). IsUndone choice bytes store fault read new) same undone)
 performed_by choice paths lent table store old first read new (Ok acted) named same t s done = record {
   paths = paths;
   named = named;
   table = table;
   store = store;
-  done =
-      subst (λ cs. IsDone choice table store acted cs new) (files_read paths table store old first read t s)
-      (subst (λ (bytes : List ℕ). IsDone choice bytes store acted read new) same done);
+  read = read;
+  files = files_read paths table store old first read t s;
+  done = subst (λ (bytes : List ℕ). IsDone choice bytes store acted read new) same done;
 }
 
 -- the table or the store is not read
@@ -200,6 +224,7 @@ pub table_unread : (choice : Choice) (path : List ℕ) (fault : Fault) (old new 
     → IsGivenUp choice fault old new
 table_unread choice path fault old new begun = Unread (begins path old new begun)
 
-pub store_unread : (choice : Choice) (name path : List ℕ) (held : Option (List ℕ)) (fault : Fault)
-    (old read new : List Call) → read ≡ Found name held ∷ old → MayBegin path read new → IsGivenUp choice fault old new
-store_unread choice name path held fault old read new is begun = Unread (begins_behind name path held old read new is begun)
+pub store_unread : (choice : Choice) (name path : List ℕ) (most : ℕ) (table : List ℕ) (fault : Fault) (old read new : List Call)
+    → ReadsAtMost name most table old read → MayBegin path read new → IsGivenUp choice fault old new
+store_unread choice name path most table fault old read new is begun =
+    Unread (begins_behind_most name path most table old read new is begun)

@@ -2,7 +2,8 @@
 use Rattle.std.proofs.Common.{◌≡◌, ℕ, Bool, List, [], ◌∷◌, Option, Some, Result, Ok, Err, IfOk, IfErr, OnErr, IfSome, subst, ap, ◌∙◌}
 use Rattle.std.specs.Io.KnownBytes.{Appends}
 use Rattle.wvalues.specs.Counts.{Counts}
-use Rattle.wfolder.specs.Call.{Call, Found}
+use Rattle.wfolder.specs.Call.{Call, Began, Found}
+use Rattle.wfiles.specs.Reading.{ReadsAtMost, Front, Whole}
 use Rattle.wfolder.specs.declared.fault.Fault.{Fault}
 use Rattle.wcommand.specs.declared.choice.Paths.{Paths}
 use Rattle.wact.specs.Opening.{Opens}
@@ -13,16 +14,17 @@ use Rattle.wshell.specs.declared.fault.ShellFault.{ShellFault}
 use Rattle.wshell.specs.declared.fault.ShellFault.TheVariants as ends
 use Rattle.wstore_program.specs.Performing.{OnlyReads}
 use Rattle.wstore_program.specs.Shelling.{IsOpened, IsRun}
+use Rattle.wstore_program.proofs.Performed.{files_read}
 
 -- what is opened on the files that were read
 pub opened : (paths : Paths) (lent table : List ℕ) (store : Option (List ℕ)) (old first read : List Call)
-    (result : Result Opened Fault) → lent ≡ table → first ≡ Found paths.table.now (Some table) ∷ old
+    (result : Result Opened Fault) → lent ≡ table → ReadsAtMost paths.table.now 65536 table old first
     → read ≡ Found paths.store.now store ∷ first → IfOk result (λ o. Opens lent store o) → IfOk result (λ o. IsOpened paths o old read)
 opened paths lent table store old first read (Ok o) same t s opens =
     record {
       table = table;
       store = store;
-      read = s ∙ ap (λ cs. Found paths.store.now store ∷ cs) t;
+      read = files_read paths table store old first read t s;
       opens =
           subst (λ (bytes : List ℕ). Opens bytes store o) same opens;
     }
@@ -30,14 +32,19 @@ opened paths lent table store old first read (Err fault) same t s opens = tt
 
 -- or there was no memory to open it
 pub unopened : {A : Type 0} (paths : Paths) (table : List ℕ) (store : Option (List ℕ)) (old first read : List Call)
-    (result : Result A Fault) → first ≡ Found paths.table.now (Some table) ∷ old → read ≡ Found paths.store.now store ∷ first
+    (result : Result A Fault) → ReadsAtMost paths.table.now 65536 table old first → read ≡ Found paths.store.now store ∷ first
     → OnErr result (OnlyReads old read)
 unopened paths table store old first read (Ok o) t s = tt
-unopened paths table store old first read (Err fault) t s =
+unopened paths table store old first read (Err fault) (Whole t) s =
     record {
       since = Found paths.store.now store ∷ Found paths.table.now (Some table) ∷ [];
-      is =
-          s ∙ ap (λ cs. Found paths.store.now store ∷ cs) t;
+      is = s ∙ ap (λ cs. Found paths.store.now store ∷ cs) t;
+      readings = tt;
+    }
+unopened paths table store old first read (Err fault) (Front long t) s =
+    record {
+      since = Found paths.store.now store ∷ Began paths.table.now table ∷ [];
+      is = s ∙ ap (λ cs. Found paths.store.now store ∷ cs) t;
       readings = tt;
     }
 

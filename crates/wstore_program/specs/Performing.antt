@@ -6,10 +6,10 @@ use Rattle.wbatch.specs.Streams.{Stops}
 use Rattle.wbatch.specs.declared.stop.Stop.{Stop}
 use Rattle.wbatch.specs.declared.stop.Stop.TheVariants as stops
 use Rattle.wfolder.specs.Call.{Call, Began, Found, Locked}
-use Rattle.wfiles.specs.Reading.{MayBegin}
-use Rattle.wfolder.specs.Names.{Site}
+use Rattle.wfolder.specs.Names.{IsSited, Site}
 use Rattle.wfolder.specs.Replacing.{Replaces, fault_of}
-use Rattle.wfiles.specs.Place.{MissesLock}
+use Rattle.wfiles.specs.Place.{MissesFile, MissesLock, read_at}
+use Rattle.wfiles.specs.Reading.{ReadsAtMost}
 use Rattle.wfolder.specs.declared.fault.Fault.{Fault}
 use Rattle.wfolder.specs.declared.replacing.NotReplaced.{NotReplaced}
 use Rattle.wcommand.specs.declared.choice.Choice.{Choice}
@@ -25,9 +25,13 @@ use Rattle.wact.specs.Opening.{Opens}
 
 -- ---- what is read
 
--- the table and the store were read, under the paths that the words name: the table has these bytes, and the store these, if it is there
-abbrev pub read_files : Paths → List ℕ → Option (List ℕ) → List Call → List Call
-read_files paths table store old = Found paths.store.now store ∷ Found paths.table.now (Some table) ∷ old
+-- the table and the store were read, under the paths that the words name: the table has these bytes, or of one that has more than a
+-- declaration may have these are the first, more than so many, and so refused whatever follows them; and the store has these, if it is
+-- there
+pub record ReadsFiles (paths : Paths) (table : List ℕ) (store : Option (List ℕ)) (old new : List Call) : Type 0 where
+  pub between : List Call
+  pub table_read : ReadsAtMost paths.table.now 65536 table old between
+  pub store_read : new ≡ Found paths.store.now store ∷ between
 
 -- the path of CSV, OTHER or STREAM
 abbrev pub input_path : Choice → Option (List ℕ)
@@ -70,9 +74,9 @@ pub record OnlyReads (old new : List Call) : Type 0 where
 abbrev pub new_store : Acted → Option (List ℕ)
 new_store acted = option_map (λ store. store.items) acted.store
 
--- the store under this path was found to hold this, while this run held the lock of its folder
-abbrev pub read_locked : List ℕ → Option (List ℕ) → List Call → List Call
-read_locked path held old = Found path held ∷ Locked true ∷ old
+-- the store that stands here was looked at, and has this access, and was found to hold this, while this run held the lock of its folder
+abbrev pub read_locked : Site → Option (List ℕ) → List Call → List Call
+read_locked site held old = read_at site held (Locked site.folder true ∷ old)
 
 -- where there is a new store, it is put in the place of the one that stands here
 abbrev pub Puts : Site → Option (List ℕ) → Result (Unit {0}) NotReplaced → List Call → List Call → Type 0
@@ -80,22 +84,23 @@ Puts site None result old new = (result ≡ Ok tt) × (new ≡ old)
 Puts site (Some bytes) result old new = Replaces site bytes result old new
 
 -- it is what the subcommand gives on this table and input, and on the store that was read, whose file is not touched where there is
--- no new store; or on the store that was found under the lock, in whose place the new one is put
+-- no new store; or on the store that was found under the lock of the folder that it stands in, in whose place the new one is put
 pub data CarriesOut (choice : Choice) (table : List ℕ) (store : Option (List ℕ)) (other : List ℕ) (acted : Acted)
     (old new : List Call) : Type 0 where
   Untouched : Acts choice table store other acted → new_store acted ≡ None → new ≡ old → CarriesOut choice table store other acted old new
-  Put : (site : Site) (held : Option (List ℕ)) → Acts choice table held other acted
-      → Puts site (new_store acted) (Ok tt) (read_locked site.path held old) new → CarriesOut choice table store other acted old new
+  Put : (site : Site) (held : Option (List ℕ)) → IsSited site → Acts choice table held other acted
+      → Puts site (new_store acted) (Ok tt) (read_locked site held old) new → CarriesOut choice table store other acted old new
 
--- the store is not touched: the lock is not tried for, or not had; or it is had, and the store is read, or not to its end, or not at
--- all; or the new store that the subcommand gives on the bytes that were found there is not put in its place, or may not stay there
+-- the store is not touched: the lock is not tried for, or not had; or it is had, and the store is looked at and read, or not to its
+-- end, or not at all; or the new store that the subcommand gives on the bytes that were found there is not put in its place, or may not
+-- stay there
 pub data IsNotCarriedOut (choice : Choice) (table other : List ℕ) (fault : Fault) (old new : List Call) : Type 0 where
   Unlocked : MissesLock old new → IsNotCarriedOut choice table other fault old new
-  Unfound : (path : List ℕ) → MayBegin path (Locked true ∷ old) new → IsNotCarriedOut choice table other fault old new
-  Unchanged : (path : List ℕ) (held : Option (List ℕ)) → new ≡ read_locked path held old → IsNotCarriedOut choice table other fault old new
-  NotPut : (held : Option (List ℕ)) (acted : Acted) (site : Site) (why : NotReplaced) → Acts choice table held other acted
+  Unfound : (site : Site) → MissesFile site (Locked site.folder true ∷ old) new → IsNotCarriedOut choice table other fault old new
+  Unchanged : (site : Site) (held : Option (List ℕ)) → new ≡ read_locked site held old → IsNotCarriedOut choice table other fault old new
+  NotPut : (held : Option (List ℕ)) (acted : Acted) (site : Site) (why : NotReplaced) → IsSited site → Acts choice table held other acted
       → fault ≡ fault_of why
-      → Puts site (new_store acted) (Err why) (read_locked site.path held old) new → IsNotCarriedOut choice table other fault old new
+      → Puts site (new_store acted) (Err why) (read_locked site held old) new → IsNotCarriedOut choice table other fault old new
 
 -- it is carried out, or at a fault it is not
 abbrev pub IsFinished : Choice → List ℕ → Option (List ℕ) → List ℕ → Result Acted Fault → List Call → List Call → Type 0
@@ -128,14 +133,16 @@ pub record IsPerformed (choice : Choice) (acted : Acted) (old new : List Call) :
   pub named : paths_of choice ≡ Some paths
   pub table : List ℕ
   pub store : Option (List ℕ)
-  pub done : IsDone choice table store acted (read_files paths table store old) new
+  pub read : List Call
+  pub files : ReadsFiles paths table store old read
+  pub done : IsDone choice table store acted read new
 
 -- it is given up before the store is touched, while files are read or behind that; or the new store is not put in its place, or may
 -- not stay there
 pub data IsGivenUp (choice : Choice) (fault : Fault) (old new : List Call) : Type 0 where
   Unread : OnlyReads old new → IsGivenUp choice fault old new
-  Undone : (paths : Paths) (table : List ℕ) (store : Option (List ℕ)) → paths_of choice ≡ Some paths
-      → IsUndone choice table store fault (read_files paths table store old) new → IsGivenUp choice fault old new
+  Undone : (paths : Paths) (table : List ℕ) (store : Option (List ℕ)) (read : List Call) → paths_of choice ≡ Some paths
+      → ReadsFiles paths table store old read → IsUndone choice table store fault read new → IsGivenUp choice fault old new
 
 -- it is performed, or at a fault it is given up
 abbrev pub Performs : Choice → Result Acted Fault → List Call → List Call → Type 0

@@ -11,7 +11,7 @@ use Rattle.wact.specs.Opening.{Opens}
 use Rattle.wact.specs.declared.opening.Opened.{Opened}
 use Rattle.wact.specs.declared.opening.Opened.TheVariants as opens
 use Rattle.wstore.specs.Nodes.{NodeState}
-use Rattle.wstore_program.specs.Performing.{OnlyReads, read_files}
+use Rattle.wstore_program.specs.Performing.{OnlyReads, ReadsFiles}
 use Rattle.wreplies.specs.declared.text.Text.{Text}
 use Rattle.wshell.specs.Runs as runs
 use Rattle.wshell.specs.declared.fault.ShellFault.{ShellFault}
@@ -27,7 +27,7 @@ shell_status (Err fault) = 3
 pub record IsOpened (paths : Paths) (opened : Opened) (old new : List Call) : Type 0 where
   pub table : List ℕ
   pub store : Option (List ℕ)
-  pub read : new ≡ read_files paths table store old
+  pub read : ReadsFiles paths table store old new
   pub opens : Opens table store opened
 
 -- a refusal is printed, or a front of it, and then the writer failed

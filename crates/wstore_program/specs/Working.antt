@@ -1,5 +1,5 @@
 -- A subcommand on the files that were read: what it gives, and how it ends.
-use Rattle.std.specs.Prelude.{◌≡◌, ℕ, true, List, [], Option, Some, Result, Ok, Err, option_map}
+use Rattle.std.specs.Prelude.{◌≡◌, ℕ, true, List, [], Option, None, Some, Result, Ok, Err, option_map}
 use Rattle.std.specs.declared.vec.Vec.{Vec}
 use Rattle.std.specs.declared.alloc.Global.{Global}
 use Rattle.wsegment.specs.Spelling.{ReadsDeclaration}
@@ -36,11 +36,11 @@ given_bytes (givens.Bytes bytes) = bytes.now
 given_bytes (givens.Batch batch) = stream_of batch.now
 
 -- the subcommand may be given this: bytes, where it is done in one act; or to feed a batch that is filled from a whole stream, under
--- the declaration of the table
+-- the declaration of the table, and has not stopped
 abbrev pub IsGiven : Work → Given → Type 0
 IsGiven work (givens.Bytes bytes) = is_act work.choice.now ≡ true
 IsGiven work (givens.Batch batch) = IsFeed work.choice.now × ReadsDeclaration work.table.now (Ok batch.now.schema)
-    × (batch.now.held ≡ [])
+    × (batch.now.stopped ≡ None) × (batch.now.held ≡ [])
 
 -- the subcommand may be given this, and it gives that then on the store that was read
 abbrev pub Gives : Work → Given → Acted → Type 0

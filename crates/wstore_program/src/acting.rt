@@ -1,5 +1,5 @@
 //! A subcommand on its files.
-ghost use Rattle.std.specs.Prelude.{◌≡◌, [], Ok, true, IfOk, IfErr, IfNone, IfSome, OnErr, OnOk, Some, option_map};
+ghost use Rattle.std.specs.Prelude.{◌≡◌, [], None, Ok, true, IfOk, IfErr, IfNone, IfSome, OnErr, OnOk, Some, option_map};
 ghost use Rattle.wsegment.specs.Spelling.{ReadsDeclaration};
 ghost use Rattle.wbatch.specs.Batches.{stream_of};
 ghost use Rattle.wcommand.specs.Inputs.{is_act, paths_of};
@@ -16,7 +16,7 @@ ghost use Rattle.wfolder.specs.Replacing.{fault_of};
 use crate::explaining::{explain_refusal, explain_stream};
 use crate::feeding::fill_from;
 use crate::given::Given;
-use crate::opening::{hashed_of, opened};
+use crate::opening::{LONGEST_DECLARATION, hashed_of, opened};
 use crate::work::Work;
 use std::alloc::{AllocError, Global};
 use std::fs::File;
@@ -27,10 +27,8 @@ use wcommand::{Choice, Paths};
 use wexchange::Hashed;
 use wfiles::{Place, Record, System, read_at_most, read_if_there, read_whole};
 use wfolder::{Fault, NotReplaced};
+use wsegment::LONGEST_SEGMENT;
 use wstore::Node;
-
-/// The most bytes of a segment.
-const LONGEST_SEGMENT: usize = 67_108_864;
 
 // What the subcommand gives on a store with these bytes, with these bytes of CSV or OTHER.
 fn acted_on(
@@ -63,6 +61,7 @@ fn fed_to(
 ) -> Result<Acted, AllocError>
     requires feed { IsFeed work.now.choice.now }
     requires declared { ReadsDeclaration work.now.table.now (Ok batch.now.schema) }
+    requires goes_on { batch.now.stopped ≡ None }
     requires whole { batch.now.held ≡ [] }
     ensures { IfOk result (GivesOn work.now (store_bytes store.now) (stream_of batch.now)) }
 {
@@ -154,7 +153,7 @@ fn put<R: Files<File = File> + AllocGlobal>(
     place: &Place,
     acted: &Acted,
 ) -> Result<(), NotReplaced>
-    requires locked { IsLocked calls.old.calls }
+    requires locked { IsLocked (place_site place.now).folder calls.old.calls }
     requires sound { NothingFailed system.old }
     ensures puts { Puts (place_site place.now) (option_map (λ store. store.items) acted.now.store) result
         calls.old.calls calls.new.calls }
@@ -254,6 +253,7 @@ fn fed_on(
     batch: &Batch,
 ) -> Result<Acted, AllocError>
     requires declared { batch.now.schema ≡ node.schema }
+    requires goes_on { batch.now.stopped ≡ None }
     requires whole { batch.now.held ≡ [] }
     ensures { IfOk result (λ acted. Feeds node.schema node.view hashed.now (stream_of batch.now) acted) }
 {
@@ -270,6 +270,7 @@ fn fed<R>(
     batch: &Batch,
 ) -> Result<Acted, Fault>
     requires declared { batch.now.schema ≡ node.schema }
+    requires goes_on { batch.now.stopped ≡ None }
     requires whole { batch.now.held ≡ [] }
     requires sound { NothingFailed system.old }
     ensures feeds { IfOk result (λ acted. Feeds node.schema node.view hashed.now (stream_of batch.now) acted) }
@@ -291,6 +292,7 @@ fn deliver<R: Files<File = File> + AllocGlobal + Clock + Eprint>(
 ) -> Result<Acted, Fault>
     requires feeds { FeedsNode work.now hashed.now node }
     requires declared { batch.now.schema ≡ node.schema }
+    requires goes_on { batch.now.stopped ≡ None }
     requires whole { batch.now.held ≡ [] }
     requires sound { NothingFailed system.old }
     ensures finished { Finishes work.now (stream_of batch.now) result calls.old.calls calls.new.calls }
@@ -409,10 +411,11 @@ fn perform_on<R: Files<File = File> + AllocGlobal + Clock + Eprint>(
 
 /// Reads the files of a subcommand, the table, the store, then CSV, OTHER or STREAM, and replaces the store where the subcommand gives
 /// a new one. A stream is read in blocks, once the table and the store are judged, to its end or to the first message that cannot be
-/// delivered; CSV that is longer than a segment may be is not read to its end, since it is refused whatever follows. A reply is that of the subcommand on the bytes that were read under the paths of its words: where there is a new store,
-/// on those that were read in its place while this run held the lock of its folder. A fault comes only where a call failed or a
-/// growth was refused, and nothing else has failed then; the store is as it was, or it has the new bytes and only its folder was not
-/// brought to the disk. A refusal is explained on standard error.
+/// delivered; a table that is longer than a declaration may be is not read to its end, nor CSV that is longer than a segment may be,
+/// since they are refused whatever follows. A reply is that of the subcommand on the bytes that were read under the paths of its words:
+/// where there is a new store, on those that were read in its place while this run held the lock of its folder. A fault comes only
+/// where a call failed or a growth was refused, and nothing else has failed then; the store is as it was, or it has the new bytes and
+/// only its folder was not brought to the disk. A refusal is explained on standard error.
 pub fn perform<R: Files<File = File> + AllocGlobal + Clock + Eprint>(
     rt: &R,
     system: &mut System<'_, R>,
@@ -427,7 +430,7 @@ pub fn perform<R: Files<File = File> + AllocGlobal + Clock + Eprint>(
     ensures counted { IsCounted result system.new }
 {
     let alloc = rt.alloc();
-    let table = match read_whole(alloc, system, calls, paths.table) {
+    let table = match read_at_most(alloc, system, calls, paths.table, LONGEST_DECLARATION) {
         Ok(table) => table,
         Err(fault) => return Err(fault),
     };

@@ -20,6 +20,7 @@ const BLOCK: usize = 65_536;
 
 // Why a stream that ends here is refused, if it is.
 fn ended(batch: &Batch) -> Option<Stop>
+    ensures goes_on { IfNone result (batch.now.stopped ≡ None) }
     ensures whole { IfNone result (batch.now.held ≡ []) }
     ensures refused { IfSome result (λ reason. (batch.now.stopped ≡ Some reason)
         ⊎ IsUndelivered batch.now.schema (stream_of batch.now) reason) }
@@ -44,6 +45,7 @@ fn fill<R, T: Read>(
         (T.remaining reading.new.reader) (stream_of batch.new) × IsAtEnd (T.remaining reading.new.reader))) }
     ensures noted { IfOk result (λ stopped. IfNone stopped (reading.new.calls
         ≡ read_to_end (read_more (stream_of batch.new) reading.old.calls))) }
+    ensures goes_on { IfOk result (λ stopped. IfNone stopped (batch.new.stopped ≡ None)) }
     ensures whole { IfOk result (λ stopped. IfNone stopped (batch.new.held ≡ [])) }
     ensures refused { IfOk result (λ stopped. IfSome stopped (RefusesRead batch.old.schema (T.remaining reading.old.reader)
         (T.remaining reading.new.reader) reading.old.calls reading.new.calls)) }
@@ -79,6 +81,7 @@ pub(crate) fn fill_from<R: Files<File = File> + AllocGlobal>(
     requires new { stream_of batch.old ≡ [] }
     requires goes_on { batch.old.stopped ≡ None }
     ensures schema { OnOk result (batch.new.schema ≡ batch.old.schema) }
+    ensures goes_on { IfOk result (λ stopped. IfNone stopped (batch.new.stopped ≡ None)) }
     ensures whole { IfOk result (λ stopped. IfNone stopped (batch.new.held ≡ [])) }
     ensures found { IfOk result (λ stopped. IfNone stopped (calls.new.calls ≡ Found path.now (Some (stream_of batch.new))
         ∷ calls.old.calls)) }

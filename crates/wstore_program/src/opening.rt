@@ -9,6 +9,9 @@ use wexchange::Hashed;
 use wfiles::System;
 use wfolder::Fault;
 
+/// The most bytes of a declaration.
+pub(crate) const LONGEST_DECLARATION: usize = 65_536;
+
 /// The bytes of a store, hashed, if there is one.
 pub(crate) fn hashed_of(store: &Option<Vec<u8>>) -> Option<Hashed<'_>>
     ensures { result ≡ option_map (λ bytes. bytes.items) store.now }

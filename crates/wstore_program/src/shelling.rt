@@ -6,7 +6,7 @@ ghost use Rattle.wlines.specs.Pending.{IsNew};
 ghost use Rattle.wstore_program.specs.Performing.{OnlyReads};
 ghost use Rattle.wstore_program.specs.Shelling.{Answers, HasShellStatus, IsOpened, IsRefusal, shell_status};
 
-use crate::opening::{hashed_of, opened};
+use crate::opening::{LONGEST_DECLARATION, hashed_of, opened};
 use crate::{DONE, failed, failed_on};
 use std::fs::File;
 use std::io::{Read, Write};
@@ -14,7 +14,7 @@ use std::process::ExitCode;
 use std::rt::Files;
 use wact::{Opened, Purpose};
 use wcommand::Paths;
-use wfiles::{Record, System, read_if_there, read_whole};
+use wfiles::{Record, System, read_at_most, read_if_there};
 use wfolder::Fault;
 use wlines::write_reply;
 use wshell::{ShellFault, run};
@@ -38,7 +38,7 @@ fn open_files<R: Files<File = File> + AllocGlobal>(
     ensures cause { IfErr result (λ fault. HasCause fault system.new) }
 {
     let alloc = rt.alloc();
-    let table = read_whole(alloc, system, calls, paths.table)?;
+    let table = read_at_most(alloc, system, calls, paths.table, LONGEST_DECLARATION)?;
     let store = read_if_there(alloc, system, calls, paths.store)?;
     opened(
         alloc,

@@ -6,7 +6,7 @@ returns-in-Err-clause-performed g c = table_unread _ _ _ _ _ c.in-Err.ensures.be
 
 pub returns-in-Err-read_if_there-clause-performed : goal.returns-in-Err-read_if_there-clause-performed
 returns-in-Err-read_if_there-clause-performed g c =
-    store_unread _ _ _ _ _ _ _ _ c.in-Ok.ensures.found c.in-Err-read_if_there.ensures.begun
+    store_unread _ _ _ _ _ _ _ _ _ c.in-Ok.ensures.found c.in-Err-read_if_there.ensures.begun
 
 pub returns-clause-performed : goal.returns-clause-performed
 returns-clause-performed g c =

@@ -1,4 +1,4 @@
-use Rattle.wstore_program.proofs.Performed.{begins, begins_behind, on_err}
+use Rattle.wstore_program.proofs.Performed.{begins, begins_behind_most, on_err}
 use Rattle.wstore_program.proofs.Shells.{opened, unopened}
 use Rattle.wstore_program.proofs.shelling.open_files.Goals as goal
 
@@ -15,4 +15,4 @@ pub returns-in_err-table-clause-unread : goal.returns-in_err-table-clause-unread
 returns-in_err-table-clause-unread g c = on_err _ (begins _ _ _ c.in_err-table.ensures.begun)
 
 pub returns-in_err-store-clause-unread : goal.returns-in_err-store-clause-unread
-returns-in_err-store-clause-unread g c = on_err _ (begins_behind _ _ _ _ _ _ c.in_ok-table.ensures.found c.in_err-store.ensures.begun)
+returns-in_err-store-clause-unread g c = on_err _ (begins_behind_most _ _ _ _ _ _ _ c.in_ok-table.ensures.found c.in_err-store.ensures.begun)
