@@ -10,7 +10,7 @@ use wslide::PartialSum;
 use wvalues::{Value, Whole};
 
 /// A count as a value.
-pub(crate) fn count_value(count: u64) -> Value
+pub fn count_value(count: u64) -> Value
     ensures { meaning result ≡ Int (pos count) }
 {
     match Whole::new(count as i128) {

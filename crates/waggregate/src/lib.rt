@@ -6,8 +6,9 @@
 //!   is out of range does; a sum is tested against the range once it is whole. Frames take at most three joins for each
 //!   row, eight where rows are excluded.
 //! - How, which no clause of these says: what the rows of a window feed is copied and folded some partitions at a time, so that a
-//!   cache holds it (where such a batch ends, an inner clause says). What lies far apart is read some rows at a time before it is copied or put. What several aggregates come to over
-//!   groups that are fed alike is found in one pass over the rows, which reads what feeds them where it lies.
+//!   cache holds it (where such a batch ends, an inner clause says). What lies far apart is read some rows at a time before it is
+//!   copied or put. What several aggregates come to over groups that are fed alike is found in one pass over the rows, which reads
+//!   what feeds them where it lies.
 //! - Asks: fewer than 2^31 rows.
 //! - Leaves expressions to `wplan` and their values to `weval`, frames to `wframe` and their folds to `wslide`.
 //!
@@ -27,6 +28,7 @@ mod summaries;
 mod tally;
 
 pub use alike::extremes_of;
+pub use answers::count_value;
 pub use feeding::{Argument, Fed, argument_values, filter_rows, is_null, plain_argument};
 pub use folding::put_frame_aggregates;
 pub use grouped::{aggregate_groups, joined_lists};

@@ -6,14 +6,17 @@ ghost use Rattle.wrows.specs.Laid.{rows_seen};
 ghost use Rattle.wcalls.specs.ListedValues.{is_lent, keeps_values, listed_seen};
 
 use std::alloc::{AllocError, Global};
+use waggregate::count_value;
 use wcolumns::{Column, LentColumn, OtherRows};
 use wrows::batch_end;
-use wvalues::{Value, Whole};
+use wvalues::Value;
 
 /// The values that a column has: lent where it keeps values, and else made of what it keeps.
 #[derive(Drop)]
 pub enum ListedColumn<'a> {
+    /// Where the column has them.
     Lent(&'a [Value]),
+    /// Made of what the column has.
     Made(Vec<Value>),
 }
 
@@ -29,23 +32,13 @@ impl<'a> ListedColumn<'a> {
     }
 }
 
-// A count as a value.
-fn count_value(count: u32) -> Value
-    ensures { meaning result ≡ Int (pos count) }
-{
-    match Whole::new(i128::from(count)) {
-        Some(whole) => Value::Int(whole),
-        None => Value::Null,
-    }
-}
-
 // Counts as values.
 fn count_values(alloc: Global, counts: &[u32]) -> Result<Vec<Value>, AllocError>
     ensures { IfOk result (λ values. map meaning values.items ≡ map counted counts.now) }
 {
     let mut values = Vec::with_capacity(alloc, counts.len())?;
     for count in counts {
-        values.push(count_value(*count))?;
+        values.push(count_value(u64::from(*count)))?;
     }
     Ok(values)
 }

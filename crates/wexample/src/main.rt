@@ -12,12 +12,16 @@ use wvalues::{Name, NameFault};
 /// Why there is no answer.
 #[derive(Debug, Drop, Error)]
 pub enum Failure {
+    /// The declaration of the table is none.
     #[error("{0}")]
     Table(#[from] SchemaFault),
+    /// The words of a name spell none.
     #[error("{0}")]
     Name(#[from] NameFault),
+    /// The bytes of a segment are none of the table.
     #[error("{0}")]
     Segment(#[from] SegmentFault),
+    /// The query is refused.
     #[error("{0}")]
     Query(#[from] AskFault),
 }

@@ -11,8 +11,8 @@ ghost use Rattle.wgroup.specs.Sight.{key_in};
 ghost use Rattle.wgroup.specs.Table.{hash_of_key, key_hash, key_input};
 
 use crate::keyed::Keyed;
-use crate::keys::cells_at;
 use std::hash::{FoldHasher, Hash, Hasher};
+use wrows::cells_at;
 use wvalues::Value;
 
 // A row's value in a column, null behind its end and where the set lacks the column.

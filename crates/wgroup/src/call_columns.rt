@@ -18,13 +18,13 @@ ghost use Rattle.wgroup.specs.Held.{all_groups, column_over, columns_in, set_ans
 use crate::fed::{FedAggregate, GroupedRows};
 use crate::found::{FinerSet, Groups};
 use crate::groups::numbers_at;
-use crate::keys::is_among;
 use crate::shared::{SharedColumn, feeds, share};
 use std::alloc::{AllocError, Global};
 use waggregate::{
     Argument, Summaries, aggregate_groups, argument_values, filter_rows, joined_lists,
     plain_argument, summaries_for,
 };
+use wgroupby::is_among;
 use wplan::{Aggregate, AggregateFunction, GroupCall};
 use wrows::AnswerFault;
 use wvalues::{Value, Whole};

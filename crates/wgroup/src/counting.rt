@@ -12,9 +12,10 @@ ghost use Rattle.wgroup.specs.Grouping.{group_rows};
 
 use crate::having::rows_held;
 use std::alloc::{AllocError, Global};
+use waggregate::count_value;
 use wplan::{Aggregate, AggregateFunction, Expr, GroupCall, Grouping};
 use wrows::{AnswerFault, Cells};
-use wvalues::{Value, Whole};
+use wvalues::Value;
 
 // Whether an aggregate is `count(*)` without FILTER.
 #[tactic(auto, unfolding(wplan::specs::Formula::formula))]
@@ -76,23 +77,13 @@ pub fn counts_rows(grouping: &Grouping) -> bool
     all_count(&grouping.calls)
 }
 
-// A count as a value.
-fn count_value(count: usize) -> Value
-    ensures { meaning result ≡ Int (pos count) }
-{
-    match Whole::new(count as i128) {
-        Some(whole) => Value::Int(whole),
-        None => Value::Null,
-    }
-}
-
 // A count for each call.
 fn counted_cells(alloc: Global, calls: &[GroupCall], count: usize) -> Result<Vec<Value>, AllocError>
     ensures { IfOk result (λ cells. map meaning cells.items ≡ map (λ c. Int (pos count)) calls.now) }
 {
     let mut cells = Vec::with_capacity(alloc, calls.len())?;
     for _ in calls {
-        cells.push(count_value(count))?;
+        cells.push(count_value(count as u64))?;
     }
     Ok(cells)
 }

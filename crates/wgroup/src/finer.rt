@@ -4,7 +4,7 @@ ghost use Rattle.wgroup.specs.declared.found.Groups as memory;
 ghost use Rattle.wgroup.specs.Finer.{is_finer, is_part};
 
 use crate::found::Groups;
-use crate::keys::is_among;
+use wgroupby::is_among;
 
 // Whether all columns of a set are among others.
 fn is_part(set: &[usize], columns: &[usize]) -> bool

@@ -11,9 +11,9 @@ ghost use Rattle.wgroup.specs.Table.{HasKeys, Holds, alike, is_of_group, key_has
 
 use crate::alike::{has_key, key_hash};
 use crate::keyed::Keyed;
-use crate::keys::{cells_at, push_key};
+use crate::keys::push_key;
 use std::alloc::{AllocError, Global};
-use wrows::slice_of;
+use wrows::{cells_at, slice_of};
 use wvalues::Value;
 
 /// In how many slots a key is looked for.

@@ -1,8 +1,7 @@
 //! The longest tokens of a text, or the place of the first fault.
 //!
 //! - Gives keywords, names, numbers, texts and symbols, each with the bytes that it was read from.
-//! - Promises: tokens and faults are those of the definitions, which allow one reading of a text; each byte is
-//!   looked at a few times at most, however long the text.
+//! - Promises: tokens and faults are those of the definitions, which allow one reading of a text.
 //! - Asks nothing: any bytes may be handed in.
 //! - Leaves the grammar to `wexpressions` and `wparser`.
 //!

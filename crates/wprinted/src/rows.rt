@@ -11,7 +11,9 @@ use wvalues::Value;
 /// How rows lie in memory: one behind another, or apart, in an order of their own. This is a matter of speed alone.
 #[derive(Clone, Copy)]
 pub enum Lie {
+    /// One behind another.
     Together,
+    /// Apart.
     Apart,
 }
 

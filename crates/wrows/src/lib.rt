@@ -37,7 +37,7 @@ pub use fault::AnswerFault;
 pub use items::{Asked, asked_for, joined_items, ordered_items};
 pub use lent::lent_rows;
 pub use listing::lists;
-pub use place_values::{place_of, places_of};
+pub use place_values::{cells_at, place_of, places_of};
 pub use presorted::presorted_items;
 pub use rows::{kept_rows, not_too_many};
 pub use values::holds;

@@ -13,6 +13,7 @@ ghost use Rattle.wrows.specs.Picked.{row_beside, with_columns};
 ghost use Rattle.wrows.specs.PlainColumns.{is_plain, plain_place};
 
 use std::alloc::{AllocError, Global};
+use wcolumns::value_or_null;
 use wplan::Expr;
 use wvalues::Value;
 
@@ -44,22 +45,10 @@ pub fn places_of(alloc: Global, exprs: &[&Expr]) -> Result<Option<Vec<usize>>, A
 }
 
 /// The cells of the row of a number, none where there is no such row.
-pub(crate) fn cells_at<'a>(rows: &[&'a [Value]], row: usize) -> &'a [Value]
+pub fn cells_at<'a>(rows: &[&'a [Value]], row: usize) -> &'a [Value]
     ensures { map meaning result.now ≡ key_at (rows_seen rows.now) row }
 {
     if row < rows.len() { rows[row] } else { &[] }
-}
-
-// What a column has for a row, null where that is nothing.
-fn value_or_null<'a>(column: &'a [Value], null: &'a Value, row: usize) -> &'a Value
-    requires { meaning null.now ≡ Null }
-    ensures { meaning result.now ≡ value_at (map meaning column.now) row }
-{
-    if row < column.len() {
-        &column[row]
-    } else {
-        null
-    }
 }
 
 // What the column of a number has for a row, null where that is nothing.

@@ -16,14 +16,23 @@ use wvalues::{Name, NameFault, number_word};
 /// the body behind it.
 #[derive(Clone, Copy, Debug)]
 pub enum Header {
+    /// `T`: the table, whose declaration has so many bytes.
     Declare(u32),
+    /// `S`: a segment of so many bytes, under a name.
     Take(NodeNumber, Result<Name, NameFault>, u32),
+    /// `R`: the retirement of a name.
     Retire(NodeNumber, Result<Name, NameFault>),
+    /// `U`: the retirement of all names of an origin up to one.
     RetireTo(NodeNumber, Result<Name, NameFault>),
+    /// `L`: what the node knows.
     List(NodeNumber),
+    /// `Q`: a query of so many bytes.
     Ask(NodeNumber, u32),
+    /// `F`: a piece of the node's delivery stream, of so many bytes.
     Feed(NodeNumber, u32),
+    /// `P`: the node's exchange file is put into a slot.
     Put(NodeNumber, SlotNumber),
+    /// `G`: the exchange file in a slot is joined into the node.
     Get(SlotNumber, NodeNumber),
 }
 
@@ -80,12 +89,8 @@ fn split_number(words: &[u8]) -> Option<(u32, &[u8])>
     ensures only { (number : ℕ) (rest : List ℕ) → number < 2 ^ 32 → words.now ≡ decimal number ++ (32 ∷ rest)
         → IsSomeAnd result (λ parts. (parts.0 ≡ number) × (parts.1.now ≡ rest)) }
 {
-    let Some((first, rest)) = split_word(words) else {
-        return None;
-    };
-    let Some(number) = number_word(first) else {
-        return None;
-    };
+    let (first, rest) = split_word(words)?;
+    let number = number_word(first)?;
     Some((number, rest))
 }
 
@@ -95,12 +100,8 @@ fn two_numbers(words: &[u8]) -> Option<(u32, u32)>
     ensures only { (first second : ℕ) → first < 2 ^ 32 → second < 2 ^ 32 → words.now ≡ pair_words first second
         → result ≡ Some (first, second) }
 {
-    let Some((first, last)) = split_number(words) else {
-        return None;
-    };
-    let Some(second) = number_word(last) else {
-        return None;
-    };
+    let (first, last) = split_number(words)?;
+    let second = number_word(last)?;
     Some((first, second))
 }
 
@@ -110,9 +111,7 @@ fn split_any(words: &[u8]) -> Option<(&[u8], &[u8])>
     ensures only { (word rest : List ℕ) → IsWord word → words.now ≡ word ++ (32 ∷ rest)
         → IsSomeAnd result (λ parts. (parts.0.now ≡ word) × (parts.1.now ≡ rest)) }
 {
-    let Some((first, rest)) = split_word(words) else {
-        return None;
-    };
+    let (first, rest) = split_word(words)?;
     if !is_word(first) {
         return None;
     }
@@ -123,9 +122,7 @@ fn split_any(words: &[u8]) -> Option<(&[u8], &[u8])>
 fn declare_header(words: &[u8]) -> Option<Header>
     ensures { IsNumberRead DeclareForm words.now result }
 {
-    let Some(len) = number_word(words) else {
-        return None;
-    };
+    let len = number_word(words)?;
     Some(Header::Declare(len))
 }
 
@@ -137,21 +134,11 @@ fn take_header(words: &[u8]) -> Option<Header>
     ensures only { (node : ℕ) (origin number : List ℕ) (len : ℕ) → IsForm (TakeForm node origin number len)
         → words.now ≡ take_words node origin number len → IsSomeAnd result (λ h. IsHeaderOf h (TakeForm node origin number len)) }
 {
-    let Some((first, rest)) = split_number(words) else {
-        return None;
-    };
-    let Some(node) = NodeNumber::new(first) else {
-        return None;
-    };
-    let Some((origin, rest)) = split_any(rest) else {
-        return None;
-    };
-    let Some((number, last)) = split_any(rest) else {
-        return None;
-    };
-    let Some(len) = number_word(last) else {
-        return None;
-    };
+    let (first, rest) = split_number(words)?;
+    let node = NodeNumber::new(first)?;
+    let (origin, rest) = split_any(rest)?;
+    let (number, last) = split_any(rest)?;
+    let len = number_word(last)?;
     Some(Header::Take(node, Name::read(origin, number), len))
 }
 
@@ -162,15 +149,9 @@ fn node_and_name(words: &[u8]) -> Option<(NodeNumber, Result<Name, NameFault>)>
     ensures only { (node : ℕ) (origin number : List ℕ) → IsForm (RetireForm node origin number)
         → words.now ≡ retire_words node origin number → IsSomeAnd result (λ read. (node ≡ read.0) × ReadsName origin number read.1) }
 {
-    let Some((first, rest)) = split_number(words) else {
-        return None;
-    };
-    let Some(node) = NodeNumber::new(first) else {
-        return None;
-    };
-    let Some((origin, number)) = split_any(rest) else {
-        return None;
-    };
+    let (first, rest) = split_number(words)?;
+    let node = NodeNumber::new(first)?;
+    let (origin, number) = split_any(rest)?;
     if !is_word(number) {
         return None;
     }
@@ -185,9 +166,7 @@ fn retire_header(words: &[u8]) -> Option<Header>
     ensures only { (node : ℕ) (origin number : List ℕ) → IsForm (RetireForm node origin number)
         → words.now ≡ retire_words node origin number → IsSomeAnd result (λ h. IsHeaderOf h (RetireForm node origin number)) }
 {
-    let Some((node, name)) = node_and_name(words) else {
-        return None;
-    };
+    let (node, name) = node_and_name(words)?;
     Some(Header::Retire(node, name))
 }
 
@@ -199,9 +178,7 @@ fn floor_header(words: &[u8]) -> Option<Header>
     ensures only { (node : ℕ) (origin number : List ℕ) → IsForm (FloorForm node origin number)
         → words.now ≡ retire_words node origin number → IsSomeAnd result (λ h. IsHeaderOf h (FloorForm node origin number)) }
 {
-    let Some((node, name)) = node_and_name(words) else {
-        return None;
-    };
+    let (node, name) = node_and_name(words)?;
     Some(Header::RetireTo(node, name))
 }
 
@@ -209,12 +186,8 @@ fn floor_header(words: &[u8]) -> Option<Header>
 fn list_header(words: &[u8]) -> Option<Header>
     ensures { IsNumberRead ListForm words.now result }
 {
-    let Some(number) = number_word(words) else {
-        return None;
-    };
-    let Some(node) = NodeNumber::new(number) else {
-        return None;
-    };
+    let number = number_word(words)?;
+    let node = NodeNumber::new(number)?;
     Some(Header::List(node))
 }
 
@@ -222,12 +195,8 @@ fn list_header(words: &[u8]) -> Option<Header>
 fn ask_header(words: &[u8]) -> Option<Header>
     ensures { IsPairRead AskForm words.now result }
 {
-    let Some((first, len)) = two_numbers(words) else {
-        return None;
-    };
-    let Some(node) = NodeNumber::new(first) else {
-        return None;
-    };
+    let (first, len) = two_numbers(words)?;
+    let node = NodeNumber::new(first)?;
     Some(Header::Ask(node, len))
 }
 
@@ -235,12 +204,8 @@ fn ask_header(words: &[u8]) -> Option<Header>
 fn feed_header(words: &[u8]) -> Option<Header>
     ensures { IsPairRead FeedForm words.now result }
 {
-    let Some((first, len)) = two_numbers(words) else {
-        return None;
-    };
-    let Some(node) = NodeNumber::new(first) else {
-        return None;
-    };
+    let (first, len) = two_numbers(words)?;
+    let node = NodeNumber::new(first)?;
     if len > LONGEST_PIECE {
         return None;
     }
@@ -251,15 +216,9 @@ fn feed_header(words: &[u8]) -> Option<Header>
 fn put_header(words: &[u8]) -> Option<Header>
     ensures { IsPairRead PutForm words.now result }
 {
-    let Some((first, second)) = two_numbers(words) else {
-        return None;
-    };
-    let Some(node) = NodeNumber::new(first) else {
-        return None;
-    };
-    let Some(slot) = SlotNumber::new(second) else {
-        return None;
-    };
+    let (first, second) = two_numbers(words)?;
+    let node = NodeNumber::new(first)?;
+    let slot = SlotNumber::new(second)?;
     Some(Header::Put(node, slot))
 }
 
@@ -267,15 +226,9 @@ fn put_header(words: &[u8]) -> Option<Header>
 fn get_header(words: &[u8]) -> Option<Header>
     ensures { IsPairRead GetForm words.now result }
 {
-    let Some((first, second)) = two_numbers(words) else {
-        return None;
-    };
-    let Some(slot) = SlotNumber::new(first) else {
-        return None;
-    };
-    let Some(node) = NodeNumber::new(second) else {
-        return None;
-    };
+    let (first, second) = two_numbers(words)?;
+    let slot = SlotNumber::new(first)?;
+    let node = NodeNumber::new(second)?;
     Some(Header::Get(slot, node))
 }
 

@@ -18,20 +18,30 @@ pub enum Refusal {
 /// What a node is told, asked, puts or gets, with its body.
 #[derive(Drop)]
 pub enum Order {
+    /// Takes the bytes of a segment under a name.
     Take(Name, Vec<u8>),
+    /// Retires a name.
     Retire(Name),
+    /// Retires all names of an origin up to one.
     RetireTo(Name),
+    /// Lists what is known.
     List,
+    /// Answers the text of a query.
     Ask(Vec<u8>),
+    /// Puts the node's exchange file into a slot.
     Put(SlotNumber),
+    /// Joins the exchange file in a slot into the node.
     Get(SlotNumber),
 }
 
 /// A command.
 #[derive(Drop)]
 pub enum Command {
+    /// Declares the table by the text of its declaration.
     Declare(Vec<u8>),
+    /// One that its form refuses.
     Refused(Refusal),
+    /// What a node is to do.
     At(NodeNumber, Order),
     /// A piece of a node's delivery stream.
     Feed(NodeNumber, Vec<u8>),
@@ -53,6 +63,7 @@ pub enum Found {
 /// What stands next in a script.
 #[derive(Drop)]
 pub enum Request {
+    /// A command, with its body.
     Whole(Command),
     /// A command, not a declaration, whose body is within its limit, found no memory and was dropped.
     NoMemory,
@@ -60,5 +71,6 @@ pub enum Request {
     NoRoom,
     /// The end of the input.
     Closed,
+    /// No command: the run ends here.
     Malformed,
 }

@@ -13,7 +13,7 @@ use std::alloc::{AllocError, Global};
 use std::marker::Model;
 
 /// The most bytes of a segment.
-pub(crate) const MAX_BYTES: usize = 67_108_864;
+pub const LONGEST_SEGMENT: usize = 67_108_864;
 
 /// Bytes that are a segment by a declaration, with the number of their rows. In a contract it is the segment's content, though no
 /// cell of it is made.
@@ -43,7 +43,7 @@ fn count_rows(alloc: Global, schema: &Schema, bytes: &[u8]) -> Result<usize, Seg
     ensures refused { IfErr result (λ fault. Fails fault (rows_of schema.now bytes.now)) }
     ensures long { 67108864 < length bytes.now → result ≡ Err SegmentFault.TooLong }
 {
-    if bytes.len() > MAX_BYTES {
+    if bytes.len() > LONGEST_SEGMENT {
         return Err(SegmentFault::TooLong);
     }
     let mut reader = reader_of(alloc, bytes)?;

@@ -31,7 +31,7 @@ mod texts;
 
 pub use column::Column;
 pub use fault::SegmentFault;
-pub use judged::Judged;
+pub use judged::{Judged, LONGEST_SEGMENT};
 pub use kind::Kind;
 pub use laws::{one_spelling, rows_need_no_memory, values_stand_under_their_names};
 pub use schema::Schema;

@@ -7,7 +7,7 @@ ghost use Rattle.wsegment.specs.Rows.{cell, rows_of};
 
 use crate::fault::SegmentFault;
 use crate::header::{column_fields, header_columns};
-use crate::judged::{Judged, MAX_BYTES};
+use crate::judged::{Judged, LONGEST_SEGMENT};
 use crate::records::{reader_of, take_header};
 use crate::rows::{Rows, read_rows};
 use crate::schema::Schema;
@@ -45,7 +45,7 @@ fn read_cells(alloc: Global, schema: &Schema, bytes: &[u8]) -> Result<Rows, Segm
     ensures few { IfOk result (λ rows. rows.count ≤ 1000000) }
     ensures long { 67108864 < length bytes.now → result ≡ Err SegmentFault.TooLong }
 {
-    if bytes.len() > MAX_BYTES {
+    if bytes.len() > LONGEST_SEGMENT {
         return Err(SegmentFault::TooLong);
     }
     let mut reader = reader_of(alloc, bytes)?;

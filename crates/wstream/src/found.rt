@@ -6,13 +6,11 @@ ghost use Rattle.wrecords.specs.Forms.{IsForm, IsNumber, line_of};
 ghost use Rattle.wstream.specs.Inboxes.{Finds};
 
 use wrecords::{Body, Form, cut_body, cut_line, cut_within, read_form};
+use wsegment::LONGEST_SEGMENT;
 use wvalues::Name;
 
 /// The longest header line, without its line feed.
 const LONGEST_LINE: usize = 200;
-
-/// The most bytes of a content.
-const MOST_BYTES: u32 = 67_108_864;
 
 /// What stands first in the bytes that are held.
 #[derive(Clone, Copy, Debug)]
@@ -34,7 +32,7 @@ fn is_too_long(len: u32) -> bool
     ensures long { result ≡ true → 67108864 < len }
     ensures short { result ≡ false → len ≤ 67108864 }
 {
-    len > MOST_BYTES
+    len as usize > LONGEST_SEGMENT
 }
 
 // What stands first where the line of a content does.

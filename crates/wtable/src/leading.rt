@@ -17,6 +17,7 @@ ghost use Rattle.wtable.specs.Tables.{rows_of_set};
 use crate::orders::{asked_of, key_columns};
 use std::alloc::{AllocError, Global};
 use std::cmp::Ordering;
+use wcolumns::value_or_null;
 use wplan::{Output, Selection};
 use wrows::place_of;
 use wsegment::Segment;
@@ -40,15 +41,6 @@ pub struct LeadingRows<'a> {
     pub(crate) cuts: u32,
 }
 
-// A value of a row, null where it has none.
-#[inline]
-fn value_at<'a>(row: &'a [Value], place: usize, null: &'a Value) -> &'a Value
-    requires { meaning null.now ≡ Null }
-    ensures { meaning result.now ≡ slice_index_or (map meaning row.now) place Null }
-{
-    if place < row.len() { &row[place] } else { null }
-}
-
 // The order of two rows by a key that is a column.
 #[inline]
 fn compare_values(a: &[Value], b: &[Value], key: &SortKey) -> Ordering
@@ -57,8 +49,8 @@ fn compare_values(a: &[Value], b: &[Value], key: &SortKey) -> Ordering
 {
     let null = Value::Null;
     compare(
-        value_at(a, key.col, &null),
-        value_at(b, key.col, &null),
+        value_or_null(a, &null, key.col),
+        value_or_null(b, &null, key.col),
         key,
     )
 }

@@ -3,16 +3,17 @@ use Rattle.std.specs.Fmt.{decimal}
 use Rattle.wlines.proofs.Decimals.{no_space}
 use Rattle.wscript.proofs.header_lines.split_number.Goals as goal
 
-pub returns-in_default-clause-only : goal.returns-in_default-clause-only
-returns-in_default-clause-only c = λ n rest fits e. c.in_default.ensures.only (decimal n) rest (no_space n fits) e
+pub returns-in_err-first-clause-only : goal.returns-in_err-first-clause-only
+returns-in_err-first-clause-only c = λ n rest fits e. absurd (c.in_err-first.ensures.only (decimal n) rest (no_space n fits) e)
 
-pub returns-in_default-number_word-clause-only : goal.returns-in_default-number_word-clause-only
-returns-in_default-number_word-clause-only c = λ n rest fits e.
-    let cut = c.in-Some.ensures.only (decimal n) rest (no_space n fits) e in
-    c.in_default-number_word.not-Some n (c.number_word.ensures.only n fits cut.0)
+pub returns-in_err-number-clause-only : goal.returns-in_err-number-clause-only
+returns-in_err-number-clause-only c = λ n rest fits e.
+    let cut = c.in_ok-first.ensures.only (decimal n) rest (no_space n fits) e in
+    let none : ⊥ = cc (c.in_err-number.ensures.only n fits cut.0) in
+    absurd none
 
 pub returns-clause-only : goal.returns-clause-only
 returns-clause-only c = λ n rest fits e.
-    let cut = c.in-Some.ensures.only (decimal n) rest (no_space n fits) e in
-    let read : c.in-Some-number_word.number ≡ n = cc (c.number_word.ensures.only n fits cut.0, c.in-Some-number_word.is) in
+    let cut = c.in_ok-first.ensures.only (decimal n) rest (no_space n fits) e in
+    let read : c.in_ok-number.number ≡ n = cc (c.in_ok-number.ensures.only n fits cut.0) in
     (read, cut.1)

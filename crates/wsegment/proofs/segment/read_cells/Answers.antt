@@ -7,13 +7,13 @@ use Rattle.wsegment.proofs.HeaderFacts.{fields-long}
 use Rattle.wsegment.proofs.SegmentFacts.{all-rows, rows-long, stop-first, stop-fields, stop-header, stop-rows}
 use Rattle.wsegment.proofs.segment.read_cells.Goals as goal
 
-pub returns-then-bytes-gt-MAX_BYTES-clause-rows : goal.returns-then-bytes-gt-MAX_BYTES-clause-rows
-returns-then-bytes-gt-MAX_BYTES-clause-rows c = inr (rows-long c.args.schema.now c.args.bytes.now c.if-bytes-gt-MAX_BYTES.true)
+pub returns-then-bytes-gt-LONGEST_SEGMENT-clause-rows : goal.returns-then-bytes-gt-LONGEST_SEGMENT-clause-rows
+returns-then-bytes-gt-LONGEST_SEGMENT-clause-rows c = inr (rows-long c.args.schema.now c.args.bytes.now c.if-bytes-gt-LONGEST_SEGMENT.true)
 
 pub returns-in_err-first-clause-rows : goal.returns-in_err-first-clause-rows
 returns-in_err-first-clause-rows c =
     let p = err_from_is_err_and c.from_residual-in_err-first.result c.from_residual-in_err-first.ensures.1 in
-    rw (p.1, p.2) (stop-first c.in_err-first.field-0.0 c.args.schema.now c.args.bytes.now c.if-bytes-gt-MAX_BYTES.false
+    rw (p.1, p.2) (stop-first c.in_err-first.field-0.0 c.args.schema.now c.args.bytes.now c.if-bytes-gt-LONGEST_SEGMENT.false
     (records_left c.in_ok-reader.reader) c.in_ok-reader.ensures.all c.in_err-first.ensures.fault)
 
 pub returns-in_err-header-clause-rows : goal.returns-in_err-header-clause-rows
@@ -22,7 +22,7 @@ returns-in_err-header-clause-rows c =
     let p = err_from_is_err_and c.from_residual-in_err-header.result c.from_residual-in_err-header.ensures.1 in
     rw (p.1, p.2) (stop-header c.in_err-header.field-0.0 c.args.schema.now c.args.bytes.now (fields_of c.in_ok-first.first)
     (records_left c.take_header.new.reader)
-    (record { short = c.if-bytes-gt-MAX_BYTES.false; all = sym c.in_ok-reader.ensures.all ∙ took.1 })
+    (record { short = c.if-bytes-gt-LONGEST_SEGMENT.false; all = sym c.in_ok-reader.ensures.all ∙ took.1 })
     (rw c.columns-columns.ensures.columns at c.in_err-header.ensures))
 
 pub returns-in_err-fields-clause-rows : goal.returns-in_err-fields-clause-rows
@@ -31,7 +31,7 @@ returns-in_err-fields-clause-rows c =
     let p = err_from_is_err_and c.from_residual-in_err-fields.result c.from_residual-in_err-fields.ensures.1 in
     rw (p.1, p.2) (stop-fields c.in_err-fields.field-0.0 c.args.schema.now c.args.bytes.now (fields_of c.in_ok-first.first)
     (records_left c.take_header.new.reader) (map (λ c. c.now) c.in_ok-header.header.items)
-    (record { short = c.if-bytes-gt-MAX_BYTES.false; all = sym c.in_ok-reader.ensures.all ∙ took.1 })
+    (record { short = c.if-bytes-gt-LONGEST_SEGMENT.false; all = sym c.in_ok-reader.ensures.all ∙ took.1 })
     (rw c.columns-columns.ensures.columns at c.in_ok-header.ensures)
     (rw (c.deref.ensures.value, c.columns-columns.ensures.columns) at c.in_err-fields.ensures.gives))
 
@@ -42,7 +42,7 @@ returns-in_err-rows-clause-rows c =
     let placed = rw (c.deref.ensures.value, c.columns-columns.ensures.columns) at c.in_ok-fields.ensures.gives in
     rw (p.1, p.2) (stop-rows c.in_err-rows.field-0.0 c.args.schema.now c.args.bytes.now (fields_of c.in_ok-first.first)
     (records_left c.take_header.new.reader) (map (λ c. c.now) c.in_ok-header.header.items) c.in_ok-fields.fields.items
-    (record { short = c.if-bytes-gt-MAX_BYTES.false; all = sym c.in_ok-reader.ensures.all ∙ took.1 })
+    (record { short = c.if-bytes-gt-LONGEST_SEGMENT.false; all = sym c.in_ok-reader.ensures.all ∙ took.1 })
     (rw c.columns-columns.ensures.columns at c.in_ok-header.ensures)
     placed.0
     placed.1
@@ -54,7 +54,7 @@ returns-clause-rows c =
     let placed = rw (c.deref.ensures.value, c.columns-columns.ensures.columns) at c.in_ok-fields.ensures.gives in
     all-rows c.args.schema.now c.args.bytes.now (fields_of c.in_ok-first.first) (records_left c.take_header.new.reader)
     (map (λ c. c.now) c.in_ok-header.header.items) c.in_ok-fields.fields.items (rows_kept c.in_ok-rows.rows)
-    (record { short = c.if-bytes-gt-MAX_BYTES.false; all = sym c.in_ok-reader.ensures.all ∙ took.1 })
+    (record { short = c.if-bytes-gt-LONGEST_SEGMENT.false; all = sym c.in_ok-reader.ensures.all ∙ took.1 })
     (rw c.columns-columns.ensures.columns at c.in_ok-header.ensures)
     placed.0
     placed.1
