@@ -37,7 +37,8 @@ def running_sum(sales):
 
 def ranks(sales):
     amounts = sales.groupby("shop", observed=True).amount
-    ranked = {name: amounts.rank(method=how, ascending=False) for name, how in (("rank", "min"), ("dense_rank", "dense"), ("row_number", "first"))}
+    methods = dict(rank="min", dense_rank="dense", row_number="first")
+    ranked = {name: amounts.rank(method=method, ascending=False) for name, method in methods.items()}
     return pandas.DataFrame(ranked).astype(int)
 
 

@@ -72,6 +72,39 @@ fn folds_take_few_joins_a_row(rt: HostRuntime) -> Result<(), Fail> {
     Ok(())
 }
 
+// The joins of an answer of all rows are as many as this at least, and at most.
+fn compare_joins(rt: &impl Abort, table: &Table, least: usize, most: usize) {
+    assert_eq!(rt; table.rows(), ROWS);
+    assert!(rt; table.joins() >= least as u64, "{} joins", table.joins());
+    assert!(rt; table.joins() <= most as u64, "{} joins", table.joins());
+}
+
+// To fold some rows takes a join less than there are rows, whoever counts: the whole table once, and once all rows but one. So a
+// count that stands still is seen. Where no aggregate has a frame nothing is joined.
+#[test]
+fn folds_take_as_many_joins_as_they_must(rt: HostRuntime) -> Result<(), Fail> {
+    let mut sales = same_sales(rt.alloc())?;
+    let whole = table_of(
+        rt.alloc(),
+        &mut sales,
+        b"SELECT max(amount) OVER () FROM sales",
+    )?;
+    compare_joins(&rt, &whole, 1999, 3 * ROWS);
+    let others = table_of(
+        rt.alloc(),
+        &mut sales,
+        b"SELECT max(amount) OVER (ROWS BETWEEN UNBOUNDED PRECEDING AND UNBOUNDED FOLLOWING EXCLUDE CURRENT ROW) FROM sales",
+    )?;
+    compare_joins(&rt, &others, 1998, 8 * ROWS);
+    let plain = table_of(
+        rt.alloc(),
+        &mut sales,
+        b"SELECT day, shop, amount FROM sales WHERE amount = 1",
+    )?;
+    compare_joins(&rt, &plain, 0, 0);
+    Ok(())
+}
+
 // Windows of the same partition values and keys share one order, whatever their frames; another key makes another, and
 // so does each ORDER BY.
 #[test]
