@@ -1,7 +1,25 @@
 -- What is noted of calls.
 use Rattle.std.specs.Prelude.{ℕ, Bool, List, [], ◌∷◌, ◌++◌, ◌==◌, true, false, cond, if◌then◌else◌, None, Some, slice_index}
 use Rattle.wfolder.specs.Call.{Call, Rights, Locked, Checked, Found, Listed, Created, Permitted}
+use Rattle.wfiles.specs.declared.record.CallKind.{CallKind}
+use Rattle.wfiles.specs.declared.record.CallKind.TheVariants as kinds
 use Rattle.wfolder.specs.Call.{Wrote, Synced, Moved, SyncedFolder, Removed, Began, Taken}
+
+-- the number under which a kind of call is noted
+abbrev pub call_number : CallKind → ℕ
+call_number kinds.Locked = 0
+call_number kinds.Found = 1
+call_number kinds.Created = 2
+call_number kinds.CreatedClosed = 3
+call_number kinds.Wrote = 4
+call_number kinds.Synced = 5
+call_number kinds.Moved = 6
+call_number kinds.SyncedFolder = 7
+call_number kinds.Removed = 8
+call_number kinds.Began = 9
+call_number kinds.Listed = 10
+call_number kinds.Taken = 11
+call_number kinds.TakenClosed = 12
 
 -- a call as it is noted: its number, and 1 where it was done
 abbrev pub call_of : ℕ → Bool → List ℕ → List ℕ → Call

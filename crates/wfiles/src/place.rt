@@ -9,7 +9,7 @@ ghost use Rattle.wfiles.specs.Place.{MissesFile, MissesLock, place_path, place_s
 
 use crate::files::read_if_there;
 use crate::real::RealFolder;
-use crate::record::{LOCKED, Record};
+use crate::record::{CallKind, Record};
 use crate::system::System;
 use std::alloc::Global;
 use std::fs::File;
@@ -73,7 +73,7 @@ fn lock_folder<R: Files<File = File> + AllocGlobal + Clock + Eprint>(
 {
     let folder = system.folder(path)?;
     let locked = system.lock(&folder);
-    calls.note_call(LOCKED, locked.is_ok(), path.as_bytes(), &[]);
+    calls.note_call(CallKind::Locked, locked.is_ok(), path.as_bytes(), &[]);
     match locked {
         Ok(()) => Ok(folder),
         Err(fault) => Err(fault),

@@ -4,7 +4,7 @@ ghost use Rattle.wfolder.specs.Call.{Began, Found};
 ghost use Rattle.wfolder.specs.Calls.{HasCause, NothingFailed};
 ghost use Rattle.wfiles.specs.Reading.{GivesBytes, NotesBytes};
 
-use crate::record::{BEGAN, FOUND, Record};
+use crate::record::{CallKind, Record};
 use crate::system::System;
 use std::fs::File;
 use std::io::Read;
@@ -35,7 +35,7 @@ impl<T> Reading<T> {
         ensures { result ≡ record { reader = reader; calls = Began path.now [] ∷ trace.calls } }
     {
         let mut trace = trace;
-        trace.note_call(BEGAN, true, path.as_bytes(), &[]);
+        trace.note_call(CallKind::Began, true, path.as_bytes(), &[]);
         Reading { reader, trace }
     }
 }
@@ -118,7 +118,7 @@ impl Reading<File> {
                 Ok(Some(Reading::begun(file, trace, path)))
             }
             Ok(None) => {
-                calls.note_call(FOUND, false, path.as_bytes(), &[]);
+                calls.note_call(CallKind::Found, false, path.as_bytes(), &[]);
                 Ok(None)
             }
             Err(fault) => Err(fault),

@@ -1,11 +1,11 @@
 //! The folder of a system. Each method makes the call that it notes, and notes what was answered: that is what the theorems over
 //! the record rest on, and no proof shows it.
 ghost use Rattle.std.specs.Prelude.{◌≡◌, ◌∷◌, is_ok, IfErr, OnOk};
-ghost use Rattle.wfiles.specs.Noting.{call_of};
+ghost use Rattle.wfiles.specs.Noting.{call_number, call_of};
 ghost use Rattle.wfolder.specs.Calls.{HasCause, NothingFailed};
 
 use crate::files::read_names;
-use crate::record::{LISTED, MOVED, REMOVED, Record, SYNCED, SYNCED_FOLDER, WROTE};
+use crate::record::{CallKind, Record};
 use crate::system::System;
 use std::alloc::Global;
 use std::fs::File;
@@ -44,11 +44,11 @@ impl<'s, 'a, R> RealFolder<'s, 'a, R> {
     }
 
     // Notes a call.
-    fn note(&mut self, number: u64, is_done: bool, path: &[u8], bytes: &[u8])
-        ensures calls { self.new.trace.calls ≡ call_of number is_done path.now bytes.now ∷ self.old.trace.calls }
+    fn note(&mut self, kind: CallKind, is_done: bool, path: &[u8], bytes: &[u8])
+        ensures calls { self.new.trace.calls ≡ call_of (call_number kind) is_done path.now bytes.now ∷ self.old.trace.calls }
         ensures system { self.new.system ≡ self.old.system }
     {
-        self.trace.note_call(number, is_done, path, bytes);
+        self.trace.note_call(kind, is_done, path, bytes);
     }
 }
 
@@ -72,7 +72,7 @@ impl<R: Files<File = File> + AllocGlobal> Folder for RealFolder<'_, '_, R> {
                 Ok(names)
             }
             Err(fault) => {
-                self.note(LISTED, false, folder.as_bytes(), &[]);
+                self.note(CallKind::Listed, false, folder.as_bytes(), &[]);
                 Err(fault)
             }
         }
@@ -111,7 +111,7 @@ impl<R: Files<File = File> + AllocGlobal> Folder for RealFolder<'_, '_, R> {
             Some(file) => self.system.write(file, bytes),
             None => Err(self.system.misplaced()),
         };
-        self.note(WROTE, written.is_ok(), path.as_bytes(), bytes);
+        self.note(CallKind::Wrote, written.is_ok(), path.as_bytes(), bytes);
         written
     }
 
@@ -120,25 +120,30 @@ impl<R: Files<File = File> + AllocGlobal> Folder for RealFolder<'_, '_, R> {
             Some(file) => self.system.sync(file),
             None => Err(self.system.misplaced()),
         };
-        self.note(SYNCED, synced.is_ok(), path.as_bytes(), &[]);
+        self.note(CallKind::Synced, synced.is_ok(), path.as_bytes(), &[]);
         synced
     }
 
     fn rename(&mut self, from: &str, to: &str) -> Result<(), Fault> {
         let moved = self.system.rename(from, to);
-        self.note(MOVED, moved.is_ok(), from.as_bytes(), to.as_bytes());
+        self.note(
+            CallKind::Moved,
+            moved.is_ok(),
+            from.as_bytes(),
+            to.as_bytes(),
+        );
         moved
     }
 
     fn sync_folder(&mut self) -> Result<(), Fault> {
         let synced = self.system.sync(self.folder);
-        self.note(SYNCED_FOLDER, synced.is_ok(), &[], &[]);
+        self.note(CallKind::SyncedFolder, synced.is_ok(), &[], &[]);
         synced
     }
 
     fn remove(&mut self, path: &str) -> bool {
         let is_removed = self.system.remove(path);
-        self.note(REMOVED, is_removed, path.as_bytes(), &[]);
+        self.note(CallKind::Removed, is_removed, path.as_bytes(), &[]);
         is_removed
     }
 }

@@ -2,37 +2,65 @@
 ghost use Rattle.std.specs.Prelude.{◌≡◌, List, [], ◌∷◌, Some, map, option_map, string_bytes};
 ghost use Rattle.std.specs.Borrow.{ftrue};
 ghost use Rattle.wfolder.specs.Call.{Call, Checked, Created, Listed, Permitted, Taken, rights_of};
-ghost use Rattle.wfiles.specs.Noting.{call_of, noted, read_on};
+ghost use Rattle.wfiles.specs.Noting.{call_number, call_of, noted, read_on};
 
 use std::marker::{Model, PhantomData};
 use std::os::unix::fs::PermissionsExt;
 use wfolder::Access;
 
-pub(crate) const LOCKED: u64 = 0;
+/// A call that is noted with whether it was done, under a path, and with bytes where it has some.
+#[derive(Clone, Copy)]
+pub(crate) enum CallKind {
+    /// A folder is opened and locked.
+    Locked,
+    /// A file is found to have these bytes, or not to be there.
+    Found,
+    /// A new file is made.
+    Created,
+    /// A new file is made, for its owner alone.
+    CreatedClosed,
+    /// A file is written.
+    Wrote,
+    /// A file is brought to the disk.
+    Synced,
+    /// A file is moved to the path that its bytes are.
+    Moved,
+    /// The folder is brought to the disk.
+    SyncedFolder,
+    /// A file is removed.
+    Removed,
+    /// A file is begun to be read.
+    Began,
+    /// The names of a folder's files are listed.
+    Listed,
+    /// A name for a new file is taken.
+    Taken,
+    /// The same of one that is for its owner alone.
+    TakenClosed,
+}
 
-pub(crate) const FOUND: u64 = 1;
-
-const CREATED: u64 = 2;
-
-const CREATED_CLOSED: u64 = 3;
-
-pub(crate) const WROTE: u64 = 4;
-
-pub(crate) const SYNCED: u64 = 5;
-
-pub(crate) const MOVED: u64 = 6;
-
-pub(crate) const SYNCED_FOLDER: u64 = 7;
-
-pub(crate) const REMOVED: u64 = 8;
-
-pub(crate) const BEGAN: u64 = 9;
-
-pub(crate) const LISTED: u64 = 10;
-
-const TAKEN: u64 = 11;
-
-const TAKEN_CLOSED: u64 = 12;
+impl CallKind {
+    // The number under which it is noted.
+    fn number(self) -> u64
+        ensures { result ≡ call_number self }
+    {
+        match self {
+            CallKind::Locked => 0,
+            CallKind::Found => 1,
+            CallKind::Created => 2,
+            CallKind::CreatedClosed => 3,
+            CallKind::Wrote => 4,
+            CallKind::Synced => 5,
+            CallKind::Moved => 6,
+            CallKind::SyncedFolder => 7,
+            CallKind::Removed => 8,
+            CallKind::Began => 9,
+            CallKind::Listed => 10,
+            CallKind::Taken => 11,
+            CallKind::TakenClosed => 12,
+        }
+    }
+}
 
 // The first number of what is no call by its number.
 const UNNUMBERED: u64 = 0;
@@ -79,10 +107,11 @@ impl Record {
         ensures { self.new.calls ≡ noted _numbers.now _name.now _bytes.now self.old.calls }
     {}
 
-    /// Notes a call, by its number.
-    pub(crate) fn note_call(&mut self, number: u64, is_done: bool, path: &[u8], bytes: &[u8])
-        ensures { self.new.calls ≡ call_of number is_done path.now bytes.now ∷ self.old.calls }
+    /// Notes a call of a kind.
+    pub(crate) fn note_call(&mut self, kind: CallKind, is_done: bool, path: &[u8], bytes: &[u8])
+        ensures { self.new.calls ≡ call_of (call_number kind) is_done path.now bytes.now ∷ self.old.calls }
     {
+        let number = kind.number();
         if is_done {
             self.note(&[number, DONE, CALL], path, bytes);
         } else {
@@ -94,16 +123,24 @@ impl Record {
     pub(crate) fn note_create(&mut self, is_made: bool, path: &[u8], is_closed: bool)
         ensures { self.new.calls ≡ Created path.now is_closed is_made ∷ self.old.calls }
     {
-        let number = if is_closed { CREATED_CLOSED } else { CREATED };
-        self.note_call(number, is_made, path, &[]);
+        let kind = if is_closed {
+            CallKind::CreatedClosed
+        } else {
+            CallKind::Created
+        };
+        self.note_call(kind, is_made, path, &[]);
     }
 
     /// Notes that no new file is made, since its name is taken.
     pub(crate) fn note_taken(&mut self, path: &[u8], is_closed: bool)
         ensures { self.new.calls ≡ Taken path.now is_closed ∷ self.old.calls }
     {
-        let number = if is_closed { TAKEN_CLOSED } else { TAKEN };
-        self.note_call(number, true, path, &[]);
+        let kind = if is_closed {
+            CallKind::TakenClosed
+        } else {
+            CallKind::Taken
+        };
+        self.note_call(kind, true, path, &[]);
     }
 
     /// Notes that the file of a path is given an access, or is not.
@@ -139,7 +176,7 @@ impl Record {
     pub(crate) fn note_names(&mut self, folder: &[u8], names: &[String])
         ensures { self.new.calls ≡ Listed folder.now (Some (map string_bytes names.now)) ∷ self.old.calls }
     {
-        self.note_call(LISTED, true, folder, &[]);
+        self.note_call(CallKind::Listed, true, folder, &[]);
         'names: for name in names.iter() {
             self.note(&[UNNUMBERED, UNDONE, NAME], name.as_bytes(), &[]);
         }

@@ -1,11 +1,11 @@
 //! A folder in memory whose machine stops at a call, for tests of what replaces files: each method makes the call that it notes on a
 //! disk in memory.
 ghost use Rattle.std.specs.Prelude.{◌≡◌, ◌≢◌, ◌∷◌, is_ok, IfErr, IfOk, OnOk};
-ghost use Rattle.wfiles.specs.Noting.{call_of};
+ghost use Rattle.wfiles.specs.Noting.{call_number, call_of};
 ghost use Rattle.wfolder.specs.Calls.{HasCause, NothingFailed};
 ghost use Rattle.wfolder.specs.Model.{IsLocked};
 
-use crate::record::{LISTED, LOCKED, MOVED, REMOVED, Record, SYNCED, SYNCED_FOLDER, WROTE};
+use crate::record::{CallKind, Record};
 use crate::system::System;
 use std::alloc::Global;
 use std::io::{self, ErrorKind};
@@ -27,7 +27,7 @@ impl<'a> Simulated<'a> {
         ensures locked { IsLocked path.now result.trace.calls }
     {
         let mut trace = Record::new();
-        trace.note_call(LOCKED, true, path.as_bytes(), &[]);
+        trace.note_call(CallKind::Locked, true, path.as_bytes(), &[]);
         Simulated {
             system: System::new(&()),
             trace,
@@ -68,14 +68,20 @@ impl<'a> Simulated<'a> {
     }
 
     // Notes a call and answers it.
-    fn answer(&mut self, number: u64, is_done: bool, path: &[u8], bytes: &[u8]) -> Result<(), Fault>
+    fn answer(
+        &mut self,
+        kind: CallKind,
+        is_done: bool,
+        path: &[u8],
+        bytes: &[u8],
+    ) -> Result<(), Fault>
         requires { NothingFailed self.old.system }
-        ensures calls { self.new.trace.calls ≡ call_of number (is_ok result) path.now bytes.now ∷ self.old.trace.calls }
+        ensures calls { self.new.trace.calls ≡ call_of (call_number kind) (is_ok result) path.now bytes.now ∷ self.old.trace.calls }
         ensures kind { IfErr result (λ fault. fault ≢ Fault.Read) }
         ensures sound { OnOk result (NothingFailed self.new.system) }
         ensures cause { IfErr result (λ fault. HasCause fault self.new.system) }
     {
-        self.trace.note_call(number, is_done, path, bytes);
+        self.trace.note_call(kind, is_done, path, bytes);
         self.told(is_done)
     }
 }
@@ -95,7 +101,8 @@ impl Folder for Simulated<'_> {
 
     fn names(&mut self, alloc: Global, folder: &str) -> Result<Vec<String>, Fault> {
         if !self.runs() {
-            self.trace.note_call(LISTED, false, folder.as_bytes(), &[]);
+            self.trace
+                .note_call(CallKind::Listed, false, folder.as_bytes(), &[]);
             let error = io::Error::from(ErrorKind::TimedOut);
             return Err(self.system.read_failed(&error));
         }
@@ -105,7 +112,8 @@ impl Folder for Simulated<'_> {
                 Ok(names)
             }
             Err(_) => {
-                self.trace.note_call(LISTED, false, folder.as_bytes(), &[]);
+                self.trace
+                    .note_call(CallKind::Listed, false, folder.as_bytes(), &[]);
                 Err(self.system.refused())
             }
         }
@@ -134,17 +142,17 @@ impl Folder for Simulated<'_> {
 
     fn write(&mut self, path: &str, bytes: &[u8]) -> Result<(), Fault> {
         let is_done = self.runs() && self.disk.write(path, bytes);
-        self.answer(WROTE, is_done, path.as_bytes(), bytes)
+        self.answer(CallKind::Wrote, is_done, path.as_bytes(), bytes)
     }
 
     fn sync(&mut self, path: &str) -> Result<(), Fault> {
         let is_done = self.runs() && self.disk.sync(path);
-        self.answer(SYNCED, is_done, path.as_bytes(), &[])
+        self.answer(CallKind::Synced, is_done, path.as_bytes(), &[])
     }
 
     fn rename(&mut self, from: &str, to: &str) -> Result<(), Fault> {
         let is_done = self.runs() && self.disk.rename(from, to);
-        self.answer(MOVED, is_done, from.as_bytes(), to.as_bytes())
+        self.answer(CallKind::Moved, is_done, from.as_bytes(), to.as_bytes())
     }
 
     fn sync_folder(&mut self) -> Result<(), Fault> {
@@ -152,13 +160,13 @@ impl Folder for Simulated<'_> {
         if is_done {
             self.disk.sync_names();
         }
-        self.answer(SYNCED_FOLDER, is_done, &[], &[])
+        self.answer(CallKind::SyncedFolder, is_done, &[], &[])
     }
 
     fn remove(&mut self, path: &str) -> bool {
         let is_removed = self.runs() && self.disk.remove(path);
         self.trace
-            .note_call(REMOVED, is_removed, path.as_bytes(), &[]);
+            .note_call(CallKind::Removed, is_removed, path.as_bytes(), &[]);
         is_removed
     }
 }
