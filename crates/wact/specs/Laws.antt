@@ -17,9 +17,10 @@ abbrev pub LongIsRefusedAlike : Type 0
 LongIsRefusedAlike = (choice : Choice) (table : List ℕ) (store : Option (List ℕ)) (front rest : List ℕ) (acted : Acted) → IsTake choice
     → 67108864 < length front → Acts choice table store front acted ↔ Acts choice table store (front ++ rest) acted
 
--- of a table with more bytes than a declaration may have the first, more than so many, tell all: it is refused alike, whatever follows
--- them, by each subcommand and where a store is opened
+-- of a table with more bytes than a declaration may have the first ones, where they are more than so many, tell all: it is refused
+-- alike, whatever follows them, by each subcommand and where a store is opened
 abbrev pub LongTableIsRefusedAlike : Type 0
 LongTableIsRefusedAlike = (front rest : List ℕ) (store : Option (List ℕ)) → 65536 < length front
-    → ((choice : Choice) (other : List ℕ) (acted : Acted) → Acts choice front store other acted ↔ Acts choice (front ++ rest) store other acted)
+    → ((choice : Choice) (other : List ℕ) (acted : Acted) → Acts choice front store other acted
+    ↔ Acts choice (front ++ rest) store other acted)
     × ((opened : Opened) → Opens front store opened ↔ Opens (front ++ rest) store opened)

@@ -32,12 +32,12 @@ pub data Opens (table : List ℕ) (store : Option (List ℕ)) (opened : Opened) 
   TableRead : (d : Declaration) → ReadsDeclaration table (Ok d) → OpensBy d store opened → Opens table store opened
   TableRefused : (fault : SchemaFault) → ReadsDeclaration table (Err fault) → IsRefusedTable fault opened → Opens table store opened
 
--- a table that is refused needs no memory, where its reading found some
+-- behind a declaration the store may lack memory; a table that is refused lacks it only where its reading did
 abbrev pub MayLackReading : Result Declaration SchemaFault → Option (List ℕ) → Type 0
 MayLackReading (Ok d) store = MayLackIn d store
 MayLackReading (Err fault) store = fault ≡ tables.NoMemory
 
--- nor does one that is too long to be one
+-- where opening may find no memory: not for a table that is too long to be a declaration
 pub record MayLackOpening (table : List ℕ) (store : Option (List ℕ)) : Type 0 where
   pub declared : Result Declaration SchemaFault
   pub reads : ReadsDeclaration table declared

@@ -88,8 +88,8 @@ fn open_by(
 }
 
 /// The node of a store, of which the bytes of the table's file and of the store's are lent, if there is one. The table is
-/// judged first. `AllocError`: memory ran out while the table was read, or the table is a declaration, and memory ran out while the
-/// store was read behind that, or in telling at which row a segment of it is refused.
+/// judged first. `AllocError`: a growth was refused, as none is for a table of over 65,536 bytes; behind a declaration that was read,
+/// in reading the store, or in telling at which row a segment of it is refused, as the clause of `open_by` says.
 pub fn open_store(
     alloc: Global,
     table: &[u8],

@@ -14,7 +14,7 @@ abbrev pub IsOneOf : List ℕ → List (List ℕ) → Type 0
 IsOneOf name [] = ⊥
 IsOneOf name (n ∷ ns) = (name ≡ n) ⊎ IsOneOf name ns
 
--- those of the names that new files have are found
+-- each of the names that is one of a new file is among those that were found
 abbrev pub FindsNew : List (List ℕ) → List (List ℕ) → Type 0
 FindsNew [] found = ⊤
 FindsNew (n ∷ ns) found = (IsNewName n → IsOneOf n found) × FindsNew ns found

@@ -70,7 +70,7 @@ const UNDONE: u64 = 0;
 
 const DONE: u64 = 1;
 
-// The third number: a call by its number, what a read gave, a name that was listed, an access that was given, or one that was found.
+// The third number: a call by its number, what a read gave, a name that was listed, an access that was given, or what a look found.
 const CALL: u64 = 0;
 
 const BYTES: u64 = 1;

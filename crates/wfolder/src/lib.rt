@@ -8,7 +8,7 @@
 //!   it can be. Where a store stands, the new file is its owner's alone until it is given the store's owner, group and mode, and has
 //!   them before its bytes. Each fault has its cause in the folder's counts; a read fault comes only where the folder's names were not
 //!   listed, a write fault only where the last call was refused, or the names of all 1,000 tries were found taken.
-//! - Asks: a folder whose lock is held, in which nothing has failed yet.
+//! - Asks: that by the record the lock is held of the folder that the store stands in, and that nothing has failed yet.
 //! - Leaves the files of a real system to `wfiles`, and what the bytes mean to the program.
 //!
 //! Read `specs/Call.antt`, `specs/Model.antt` and `specs/Names.antt`, then `specs/Replacing.antt`, `specs/Clearing.antt` and

@@ -120,10 +120,10 @@ found_locked site folder held old locked read same l r = r ∙ ap (read_at site 
 
 -- a store that is not read to its end
 pub unfound : (choice : Choice) (table other : List ℕ) (site : Site) (folder : List ℕ) (fault : Fault) (old locked new : List Call)
-    → site.folder ≡ folder → locked ≡ Locked folder true ∷ old → MissesFile site locked new
+    → IsSited site → site.folder ≡ folder → locked ≡ Locked folder true ∷ old → MissesFile site locked new
     → IsNotCarriedOut choice table other fault old new
-unfound choice table other site folder fault old locked new same l begun =
-    Unfound site (subst (λ cs. MissesFile site cs new) (locked_still site folder old locked same l) begun)
+unfound choice table other site folder fault old locked new sited same l begun =
+    Unfound site sited (subst (λ cs. MissesFile site cs new) (locked_still site folder old locked same l) begun)
 
 -- a new store is put in the place of what was read
 pub put_in_place : (choice : Choice) (acted : Acted) (table : List ℕ) (store held : Option (List ℕ)) (other : List ℕ) (site : Site)

@@ -25,9 +25,9 @@ use Rattle.wact.specs.Opening.{Opens}
 
 -- ---- what is read
 
--- the table and the store were read, under the paths that the words name: the table has these bytes, or of one that has more than a
--- declaration may have these are the first, more than so many, and so refused whatever follows them; and the store has these, if it is
--- there
+-- the table and the store were read, under the paths that the words name. The table has these bytes; or it has more than a declaration
+-- may have, and these are its first ones, more than so many, by which it is refused whatever follows them. The store has these, if it
+-- is there
 pub record ReadsFiles (paths : Paths) (table : List ℕ) (store : Option (List ℕ)) (old new : List Call) : Type 0 where
   pub between : List Call
   pub table_read : ReadsAtMost paths.table.now 65536 table old between
@@ -96,8 +96,10 @@ pub data CarriesOut (choice : Choice) (table : List ℕ) (store : Option (List �
 -- stay there
 pub data IsNotCarriedOut (choice : Choice) (table other : List ℕ) (fault : Fault) (old new : List Call) : Type 0 where
   Unlocked : MissesLock old new → IsNotCarriedOut choice table other fault old new
-  Unfound : (site : Site) → MissesFile site (Locked site.folder true ∷ old) new → IsNotCarriedOut choice table other fault old new
-  Unchanged : (site : Site) (held : Option (List ℕ)) → new ≡ read_locked site held old → IsNotCarriedOut choice table other fault old new
+  Unfound : (site : Site) → IsSited site → MissesFile site (Locked site.folder true ∷ old) new
+      → IsNotCarriedOut choice table other fault old new
+  Unchanged : (site : Site) (held : Option (List ℕ)) → IsSited site → new ≡ read_locked site held old
+      → IsNotCarriedOut choice table other fault old new
   NotPut : (held : Option (List ℕ)) (acted : Acted) (site : Site) (why : NotReplaced) → IsSited site → Acts choice table held other acted
       → fault ≡ fault_of why
       → Puts site (new_store acted) (Err why) (read_locked site held old) new → IsNotCarriedOut choice table other fault old new

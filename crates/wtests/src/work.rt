@@ -79,8 +79,8 @@ fn compare_joins(rt: &impl Abort, table: &Table, least: usize, most: usize) {
     assert!(rt; table.joins() <= most as u64, "{} joins", table.joins());
 }
 
-// To fold some rows takes a join less than there are rows, whoever counts: the whole table once, and once all rows but one. So a
-// count that stands still is seen. Where no aggregate has a frame nothing is joined.
+// To fold rows takes at least one join less than there are rows, however it is done: all rows of the table in the first query, all
+// but one in the second. So a count that stands still is seen. Where no aggregate has a frame nothing is joined.
 #[test]
 fn folds_take_as_many_joins_as_they_must(rt: HostRuntime) -> Result<(), Fail> {
     let mut sales = same_sales(rt.alloc())?;

@@ -3,12 +3,12 @@ use Rattle.wstore_program.proofs.Performed.{found_locked, not_put, put_in_place,
 use Rattle.wstore_program.proofs.acting.carry_out.Goals as goal
 
 pub returns-in-Err-read-clause-finished : goal.returns-in-Err-read-clause-finished
-returns-in-Err-read-clause-finished g c = unfound _ _ _ _ _ _ _ _ _ c.in-Err-read.ensures.folder c.in-Ok.ensures.locked
+returns-in-Err-read-clause-finished g c = unfound _ _ _ _ _ _ _ _ _ c.in-Err-read.ensures.sited c.in-Err-read.ensures.folder c.in-Ok.ensures.locked
     c.in-Err-read.ensures.begun
 
 pub returns-in-Err-acted_again-clause-finished : goal.returns-in-Err-acted_again-clause-finished
 returns-in-Err-acted_again-clause-finished g c =
-    Unchanged _ _ (found_locked _ _ _ _ _ _ c.in-Ok-read.ensures.folder c.in-Ok.ensures.locked c.in-Ok-read.ensures.found)
+    Unchanged _ _ c.in-Ok-read.ensures.sited (found_locked _ _ _ _ _ _ c.in-Ok-read.ensures.folder c.in-Ok.ensures.locked c.in-Ok-read.ensures.found)
 
 pub returns-in-Ok-put-clause-finished : goal.returns-in-Ok-put-clause-finished
 returns-in-Ok-put-clause-finished g c = put_in_place _ _ _ _ _ _ _ _ _ _ _ _ c.in-Ok-read.ensures.sited c.in-Ok-acted_again.ensures.acts
