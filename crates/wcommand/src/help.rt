@@ -124,7 +124,7 @@ STREAM is a file or a pipe, as /dev/stdin, of messages one behind the other: seg
   S ORIGIN NUMBER LENGTH    then a line feed, the LENGTH bytes of a CSV file, and a line feed
   R ORIGIN NUMBER           then a line feed
   U ORIGIN NUMBER           then a line feed
-The store is read once, and written once behind the last message.
+The store is judged once, and written once behind the last message.
 
 Prints a line for each message, what 'take', 'retire' or 'floor' prints, and then 'fed' and their number; or the first
 refusal alone, and then none of the messages counts:
