@@ -1,5 +1,5 @@
 -- The key lists of rows, as they are lent.
-use Rattle.std.specs.Prelude.{List, length}
+use Rattle.std.specs.Prelude.{ℕ, List, Option, length, option_map}
 use Rattle.wvalues.specs.declared.key.SortKey.{SortKey}
 use Rattle.wvalues.specs.Meaning.{Meaning}
 use Rattle.wvalues.specs.Order.{keys_cmp}
@@ -14,6 +14,10 @@ key_lists r = lists_of r.lists (length r.keys.now) r.count
 -- the keys by which the rows stand
 abbrev pub sort_keys : KeyRows → List SortKey
 sort_keys r = r.keys.now
+
+-- a code for each row, by which rows are told apart, where they have codes
+abbrev pub row_codes : KeyRows → Option (List ℕ)
+row_codes r = option_map (λ codes. codes.now) r.codes
 
 -- the rows stand in the order of their keys
 abbrev pub AreInOrder : KeyRows → Type 0

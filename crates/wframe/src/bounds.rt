@@ -1,3 +1,4 @@
+//! The ends of frames in RANGE and GROUPS, one for each group of peers, as tests of places.
 ghost use Rattle.std.specs.Prelude.{◌≡◌, ◌&&◌, ◌+◌, ◌<◌, ◌^◌, true, not, length, IsTrue, OnOk};
 ghost use Rattle.wvalues.specs.Order.{keys_cmp};
 ghost use Rattle.wframe.specs.KeyRows.{key_lists, sort_keys};

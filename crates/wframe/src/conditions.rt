@@ -1,3 +1,4 @@
+//! The test of what callers are asked: that rows stand by their partition values, then by their keys.
 ghost use Rattle.std.specs.Prelude.{◌≡◌, ◌<◌, ◌+◌, ◌↔◌, length, IsTrue};
 ghost use Rattle.wvalues.specs.Order.{keys_cmp};
 ghost use Rattle.wframe.specs.KeyRows.{key_lists, sort_keys, AreInOrder, AreInOrderWithin};

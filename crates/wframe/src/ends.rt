@@ -1,3 +1,4 @@
+//! What is kept of each partition: where peers end, and where frames start and end.
 ghost use Rattle.std.specs.Prelude.{◌≡◌, ◌+◌, ◌<◌, ◌≤◌, ◌^◌, ◌&&◌, length, max, slice_index, IsTrue, IfOk, OnOk, not, true};
 ghost use Rattle.wframe.specs.PeerGroups.{begins_of};
 

@@ -1,3 +1,4 @@
+//! What a frame leaves out, and the spans that are left of its extent.
 ghost use Rattle.std.specs.Prelude.{◌≡◌, ◌<◌, ◌≤◌, ℕ, ◌&&◌, ◌||◌, not, nat_le, nat_lt, filter, [], ◌∷◌};
 ghost use Rattle.wframe.specs.Places.{places, spans_places, is_in_span, AreApart, IsPlain};
 ghost use Rattle.wframe.specs.Frame.{is_excluded};

@@ -1,3 +1,5 @@
+//! The frame clause of a window, and spans of places.
+
 /// What a frame counts: rows, distances between keys, or groups of peers.
 #[derive(Clone, Copy, Debug, PartialEq, Eq)]
 pub enum FrameMode {

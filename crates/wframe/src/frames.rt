@@ -1,3 +1,4 @@
+//! The peers and the frame of each row of one partition.
 ghost use Rattle.std.specs.Prelude.{◌≡◌, ◌<◌, ◌≤◌, ◌+◌, ◌-◌, ℕ, [], ◌∷◌, length, max};
 ghost use Rattle.wvalues.specs.Order.{keys_cmp};
 ghost use Rattle.wframe.specs.Peers.{AreOrdered, are_peers, smaller_keys};

@@ -1,3 +1,4 @@
+//! How far a bound moves a number of rows or of groups.
 ghost use Rattle.std.specs.Prelude.{◌≡◌, min};
 ghost use Rattle.wframe.specs.Moves.{move_of, moved_number};
 ghost use Rattle.wframe.specs.Offsets.{moves_groups as has_moved_groups};

@@ -1,4 +1,6 @@
 pub mod LaidRows
+pub mod LaidKeys
 pub mod Ordered
 pub mod Dealt
+pub mod Bucketed
 pub mod Selected
