@@ -15,6 +15,7 @@ ghost use Rattle.wplanner.specs.Sound.{is_sound_select};
 ghost use Rattle.wtable.specs.TableOrders.{ArePresorted, by_keys};
 
 use crate::parts::item_names;
+use crate::placed::PlacedSelect;
 use crate::printing::print;
 use crate::selecting::left_items;
 use crate::table::Table;
@@ -24,7 +25,7 @@ use std::alloc::{AllocError, Global};
 use wcalls::{key_orders, key_values};
 use wcolumns::{Column, LentColumn};
 use wplan::Selection;
-use wprinted::{Lie, PickedRows, RowsBeside, print_rows};
+use wprinted::{Layout, PickedRows, RowsBeside, print_rows};
 use wrows::{AnswerFault, Cells, asked_for, lists, sorted_numbers};
 use wtable::{PresortedOrders, asked_of};
 use wvalues::Value;
@@ -40,100 +41,97 @@ fn asked_numbers<'a>(select: &Selection, numbers: &'a [u32]) -> &'a [u32]
 // The text of rows that have the values of some columns behind their cells, in a presorted order, as many as are asked for.
 fn picked_text(
     alloc: Global,
-    select: &Selection,
-    places: &[usize],
+    placed: &PlacedSelect,
     rows: &[&[Value]],
     columns: &[LentColumn],
     numbers: &[u32],
 ) -> Result<Vec<u8>, AllocError>
-    ensures { IfOk result (λ bytes. bytes.items ≡ table_text (map (λ o. o.name) (select_plan select.now).items)
-        (map (values_at places.now) (map (row_beside (rows_seen rows.now) (columns_seen columns.now))
-        (cut select.now.offset select.now.limit numbers.now)))) }
+    ensures { IfOk result (λ bytes. bytes.items ≡ table_text (map (λ o. o.name) (select_plan placed.now.select.now).items)
+        (map (values_at placed.now.places.now) (map (row_beside (rows_seen rows.now) (columns_seen columns.now))
+        (cut placed.now.select.now.offset placed.now.select.now.limit numbers.now)))) }
 {
-    let names = item_names(alloc, &select.items)?;
+    let names = item_names(alloc, &placed.select.items)?;
     let picked = PickedRows {
         rows,
         columns,
-        numbers: asked_numbers(select, numbers),
+        numbers: asked_numbers(placed.select, numbers),
     };
-    print_rows(alloc, &names, places, &picked)
+    print_rows(alloc, &names, placed.places, &picked)
 }
 
 /// The text of rows that have the values of some columns behind their cells, as they stand, as many as are asked for.
 pub(crate) fn standing_text(
     alloc: Global,
-    select: &Selection,
-    places: &[usize],
+    placed: &PlacedSelect,
     rows: &[&[Value]],
     columns: &[LentColumn],
-    lie: Lie,
+    layout: Layout,
 ) -> Result<Vec<u8>, AllocError>
-    ensures { IfOk result (λ bytes. bytes.items ≡ table_text (map (λ o. o.name) (select_plan select.now).items)
-        (map (values_at places.now) (cut select.now.offset select.now.limit (beside (rows_seen rows.now) (columns_seen columns.now))))) }
+    ensures { IfOk result (λ bytes. bytes.items ≡ table_text (map (λ o. o.name) (select_plan placed.now.select.now).items)
+        (map (values_at placed.now.places.now) (cut placed.now.select.now.offset placed.now.select.now.limit
+        (beside (rows_seen rows.now) (columns_seen columns.now))))) }
 {
-    let names = item_names(alloc, &select.items)?;
-    let (from, count) = asked_for(asked_of(select), rows.len());
+    let names = item_names(alloc, &placed.select.items)?;
+    let (from, count) = asked_for(asked_of(placed.select), rows.len());
     let standing = RowsBeside {
         rows,
         columns,
         from,
         count,
-        lie,
+        layout,
     };
-    print_rows(alloc, &names, places, &standing)
+    print_rows(alloc, &names, placed.places, &standing)
 }
 
 // The text of rows that have the values of some columns behind their cells, in the presorted order where one is asked for.
 fn text_beside(
     alloc: Global,
-    select: &Selection,
-    places: &[usize],
+    placed: &PlacedSelect,
     rows: &[&[Value]],
     columns: &[LentColumn],
     presorted: &Option<Vec<u32>>,
 ) -> Result<Vec<u8>, AllocError>
-    requires reads { ReadsPlaces (select_plan select.now) places.now }
-    requires presorted { IfSome presorted.now (λ numbers. by_keys (select_plan select.now).keys (columns_seen columns.now)
+    requires reads { ReadsPlaces (select_plan placed.now.select.now) placed.now.places.now }
+    requires presorted { IfSome presorted.now (λ numbers. by_keys (select_plan placed.now.select.now).keys (columns_seen columns.now)
         (rows_seen rows.now) ≡ Ok numbers.items) }
-    requires standing { presorted.now ≡ None → length (select_plan select.now).keys ≡ 0 }
-    ensures { IfOk result (λ bytes. text_in (select_plan select.now)
-        (items_of (select_plan select.now) (beside (rows_seen rows.now) (columns_seen columns.now))) ≡ Ok bytes.items) }
+    requires standing { presorted.now ≡ None → length (select_plan placed.now.select.now).keys ≡ 0 }
+    ensures { IfOk result (λ bytes. text_in (select_plan placed.now.select.now)
+        (items_of (select_plan placed.now.select.now) (beside (rows_seen rows.now) (columns_seen columns.now))) ≡ Ok bytes.items) }
 {
     match presorted {
-        None => standing_text(alloc, select, places, rows, columns, Lie::Together),
-        Some(numbers) => picked_text(alloc, select, places, rows, columns, numbers),
+        None => standing_text(alloc, placed, rows, columns, Layout::Contiguous),
+        Some(numbers) => picked_text(alloc, placed, rows, columns, numbers),
     }
 }
 
 // The text of rows with what the calls answer behind their cells, in the presorted order where one is asked for.
 fn called_text(
     alloc: Global,
-    select: &Selection,
-    places: &[usize],
+    placed: &PlacedSelect,
     rows: &[&[Value]],
     presorted: PresortedOrders,
 ) -> Result<Vec<u8>, AnswerFault>
-    requires reads { ReadsPlaces (select_plan select.now) places.now }
-    requires sound { is_sound_select (select_plan select.now) ≡ true }
+    requires reads { ReadsPlaces (select_plan placed.now.select.now) placed.now.places.now }
+    requires sound { is_sound_select (select_plan placed.now.select.now) ≡ true }
     requires few { length rows.now < 2 ^ 31 }
-    requires presorted { ArePresorted (rows_seen rows.now) (select_plan select.now).keys presorted }
-    requires standing { presorted.keys ≡ None → length (select_plan select.now).keys ≡ 0 }
+    requires presorted { ArePresorted (rows_seen rows.now) (select_plan placed.now.select.now).keys presorted }
+    requires standing { presorted.keys ≡ None → length (select_plan placed.now.select.now).keys ≡ 0 }
     ensures { Gives (λ bytes. bytes.items) result
-        (text_in (select_plan select.now) (left_items (select_plan select.now) (rows_seen rows.now))) }
+        (text_in (select_plan placed.now.select.now) (left_items (select_plan placed.now.select.now) (rows_seen rows.now))) }
 {
     let PresortedOrders { windows, keys } = presorted;
     let mut work = Work::new();
     let answers = window_answers(
         alloc,
-        &select.windows,
-        &select.calls,
+        &placed.select.windows,
+        &placed.select.calls,
         &*rows,
         windows,
         &mut work,
     )?;
     let none = Column::none(alloc);
-    let columns = call_columns(alloc, &answers, &none, &select.calls)?;
-    let bytes = text_beside(alloc, select, places, rows, &columns, &keys)?;
+    let columns = call_columns(alloc, &answers, &none, &placed.select.calls)?;
+    let bytes = text_beside(alloc, placed, rows, &columns, &keys)?;
     Ok(bytes)
 }
 
@@ -155,18 +153,17 @@ fn key_numbers(
 // The text of rows that are put in order by themselves, where nothing calls for a window.
 fn sorted_text(
     alloc: Global,
-    select: &Selection,
-    places: &[usize],
+    placed: &PlacedSelect,
     rows: &[&[Value]],
 ) -> Result<Vec<u8>, AnswerFault>
-    requires reads { ReadsPlaces (select_plan select.now) places.now }
-    requires sound { is_sound_select (select_plan select.now) ≡ true }
-    requires unwindowed { length (select_plan select.now).windows ≡ 0 }
+    requires reads { ReadsPlaces (select_plan placed.now.select.now) placed.now.places.now }
+    requires sound { is_sound_select (select_plan placed.now.select.now) ≡ true }
+    requires unwindowed { length (select_plan placed.now.select.now).windows ≡ 0 }
     ensures { Gives (λ bytes. bytes.items) result
-        (text_in (select_plan select.now) (left_items (select_plan select.now) (rows_seen rows.now))) }
+        (text_in (select_plan placed.now.select.now) (left_items (select_plan placed.now.select.now) (rows_seen rows.now))) }
 {
-    let numbers = key_numbers(alloc, select, rows)?;
-    let bytes = picked_text(alloc, select, places, rows, &[], &numbers)?;
+    let numbers = key_numbers(alloc, placed.select, rows)?;
+    let bytes = picked_text(alloc, placed, rows, &[], &numbers)?;
     Ok(bytes)
 }
 
@@ -230,23 +227,22 @@ pub(crate) fn is_unwindowed(select: &Selection) -> bool
 /// and a table is made where the calls of windows stand behind them.
 pub(crate) fn rows_text(
     alloc: Global,
-    select: &Selection,
-    places: &[usize],
+    placed: &PlacedSelect,
     rows: Vec<&[Value]>,
     presorted: PresortedOrders,
 ) -> Result<Vec<u8>, AnswerFault>
-    requires reads { ReadsPlaces (select_plan select.now) places.now }
-    requires sound { is_sound_select (select_plan select.now) ≡ true }
+    requires reads { ReadsPlaces (select_plan placed.now.select.now) placed.now.places.now }
+    requires sound { is_sound_select (select_plan placed.now.select.now) ≡ true }
     requires few { length rows.items < 2 ^ 31 }
-    requires presorted { ArePresorted (rows_seen rows.items) (select_plan select.now).keys presorted }
+    requires presorted { ArePresorted (rows_seen rows.items) (select_plan placed.now.select.now).keys presorted }
     ensures { Gives (λ bytes. bytes.items) result
-        (text_in (select_plan select.now) (left_items (select_plan select.now) (rows_seen rows.entry.items))) }
+        (text_in (select_plan placed.now.select.now) (left_items (select_plan placed.now.select.now) (rows_seen rows.entry.items))) }
 {
-    if is_presorted(select, &presorted) {
-        called_text(alloc, select, places, &rows, presorted)
-    } else if is_unwindowed(select) {
-        sorted_text(alloc, select, places, &rows)
+    if is_presorted(placed.select, &presorted) {
+        called_text(alloc, placed, &rows, presorted)
+    } else if is_unwindowed(placed.select) {
+        sorted_text(alloc, placed, &rows)
     } else {
-        made_text(alloc, select, rows, presorted)
+        made_text(alloc, placed.select, rows, presorted)
     }
 }

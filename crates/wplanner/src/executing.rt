@@ -17,6 +17,7 @@ ghost use Rattle.wplanner.specs.declared.fault.AskFault.TheVariants.{NoMemory};
 use crate::fault::AskFault;
 use crate::lent::{lent_places, lent_text};
 use crate::parts::item_names;
+use crate::placed::PlacedSelect;
 use crate::printing::print;
 use crate::selecting::{select_rows, select_table_rows};
 use crate::table::Table;
@@ -109,7 +110,8 @@ fn query_answer(
 ///
 /// Nothing is skipped: it is `OutOfRange` where a condition, an item, a key, an argument or a filter is so on any row
 /// that it is evaluated on, or a result is, whatever is left out, and `TooManyRows` where more than 2,147,483,647 rows are
-/// kept or groups of all sets together made. Otherwise it answers the table, unless memory is refused.
+/// kept or groups of all sets together made. Otherwise it answers the table, unless memory is refused; of a set whose cells are
+/// not all made (`SegmentSet::make`) it may answer `NoMemory` though there is memory.
 ///
 /// What the set knows stays as it is. Where rows of the table are ordered by columns of it and are not grouped, their order may come
 /// from runs that the segments keep, and runs that are missing may be made: `table_orders` of `wtable` says of which orders.
@@ -158,24 +160,23 @@ fn one_select(selects: &[Selection]) -> Option<&Selection>
 fn lent_answer(
     alloc: Global,
     set: &mut SegmentSet,
-    select: &Selection,
-    places: &[usize],
+    placed: &PlacedSelect,
 ) -> Result<Vec<u8>, AskFault>
-    requires sound { is_sound_select (select_plan select.now) ≡ true }
-    requires reads { ReadsPlaces (select_plan select.now) places.now }
+    requires sound { is_sound_select (select_plan placed.now.select.now) ≡ true }
+    requires reads { ReadsPlaces (select_plan placed.now.select.now) placed.now.places.now }
     ensures answer { MatchResult result
-        (λ bytes. plan_answer (select_plan select.now ∷ []) (rows_of_set set.old) ≡ Ok bytes.items)
-        (λ fault. (fault ≡ NoMemory) ⊎ (plan_answer (select_plan select.now ∷ []) (rows_of_set set.old) ≡ Err fault)) }
+        (λ bytes. plan_answer (select_plan placed.now.select.now ∷ []) (rows_of_set set.old) ≡ Ok bytes.items)
+        (λ fault. (fault ≡ NoMemory) ⊎ (plan_answer (select_plan placed.now.select.now ∷ []) (rows_of_set set.old) ≡ Err fault)) }
     ensures same { Becomes set.old set.old.view set.new }
 {
-    let bytes = lent_text(alloc, select, places, set)?;
+    let bytes = lent_text(alloc, placed, set)?;
     Ok(bytes)
 }
 
-/// The bytes of the answer of a query, as `print` makes them of the table that `execute` answers, or its fault. Where the query
-/// is one SELECT that groups no rows and whose items are plain columns, or answers of calls over windows, the rows are printed
-/// where they lie, and no table is made, but where at most 1,024 rows of an order are asked for without a window, or calls stand
-/// behind the rows and no run tells the order.
+/// The bytes of the answer of a query, as `print` makes them of the table that `execute` answers, or its fault, of a set whose cells
+/// are made, as `execute` wants it. No table is built for one SELECT without GROUP BY whose items are plain columns or answers of calls
+/// over windows, whose rows are printed where they lie. There are two exceptions: no window, an ORDER BY, and OFFSET plus LIMIT at most
+/// 1,024; or windows, and an ORDER BY whose order no run tells.
 pub fn answer_text(
     alloc: Global,
     set: &mut SegmentSet,
@@ -187,12 +188,15 @@ pub fn answer_text(
         (λ fault. (fault ≡ NoMemory) ⊎ (plan_answer (plans query.now) (rows_of_set set.old) ≡ Err fault)) }
     ensures same { Becomes set.old set.old.view set.new }
 {
-    match one_select(&query.selections) {
-        None => printed_answer(alloc, set, query),
-        Some(select) => match lent_places(alloc, select) {
-            Err(_) => Err(AskFault::NoMemory),
-            Ok(None) => printed_answer(alloc, set, query),
-            Ok(Some(places)) => lent_answer(alloc, set, select, &places),
-        },
-    }
+    let Some(select) = one_select(&query.selections) else {
+        return printed_answer(alloc, set, query);
+    };
+    let Some(places) = lent_places(alloc, select)? else {
+        return printed_answer(alloc, set, query);
+    };
+    let placed = PlacedSelect {
+        select,
+        places: &places,
+    };
+    lent_answer(alloc, set, &placed)
 }

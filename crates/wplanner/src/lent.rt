@@ -15,9 +15,10 @@ ghost use Rattle.wtable.specs.Tables.{rows_of_set};
 
 use crate::beside::{is_unwindowed, rows_text, standing_text};
 use crate::parts::item_places;
+use crate::placed::PlacedSelect;
 use std::alloc::{AllocError, Global};
 use wplan::Selection;
-use wprinted::Lie;
+use wprinted::Layout;
 use wrows::AnswerFault;
 use wruns::RowRef;
 use wset::SegmentSet;
@@ -29,20 +30,19 @@ use wtable::{
 // The text of the rows that WHERE keeps, where these are few.
 fn few_text(
     alloc: Global,
-    select: &Selection,
-    places: &[usize],
+    placed: &PlacedSelect,
     set: &SegmentSet,
 ) -> Result<Option<Vec<u8>>, AnswerFault>
-    requires reads { ReadsPlaces (select_plan select.now) places.now }
-    requires sound { is_sound_select (select_plan select.now) ≡ true }
+    requires reads { ReadsPlaces (select_plan placed.now.select.now) placed.now.places.now }
+    requires sound { is_sound_select (select_plan placed.now.select.now) ≡ true }
     ensures { MayGive (λ bytes. bytes.items) result
-        (text_in (select_plan select.now) (select_of (select_plan select.now) (rows_of_set set.now))) }
+        (text_in (select_plan placed.now.select.now) (select_of (select_plan placed.now.select.now) (rows_of_set set.now))) }
 {
-    let found = few_kept_rows(alloc, select, set)?;
+    let found = few_kept_rows(alloc, placed.select, set)?;
     match found {
         None => Ok(None),
         Some(kept) => {
-            let bytes = rows_text(alloc, select, places, kept, PresortedOrders::none(alloc))?;
+            let bytes = rows_text(alloc, placed, kept, PresortedOrders::none(alloc))?;
             Ok(Some(bytes))
         }
     }
@@ -51,59 +51,56 @@ fn few_text(
 // The text of the rows that WHERE keeps, where no order of them is presorted.
 fn unordered_text(
     alloc: Global,
-    select: &Selection,
-    places: &[usize],
+    placed: &PlacedSelect,
     set: &SegmentSet,
 ) -> Result<Vec<u8>, AnswerFault>
-    requires reads { ReadsPlaces (select_plan select.now) places.now }
-    requires sound { is_sound_select (select_plan select.now) ≡ true }
+    requires reads { ReadsPlaces (select_plan placed.now.select.now) placed.now.places.now }
+    requires sound { is_sound_select (select_plan placed.now.select.now) ≡ true }
     ensures { Gives (λ bytes. bytes.items) result
-        (text_in (select_plan select.now) (select_of (select_plan select.now) (rows_of_set set.now))) }
+        (text_in (select_plan placed.now.select.now) (select_of (select_plan placed.now.select.now) (rows_of_set set.now))) }
 {
-    let kept = kept_table_rows(alloc, &select.condition, set)?;
-    rows_text(alloc, select, places, kept, PresortedOrders::none(alloc))
+    let kept = kept_table_rows(alloc, &placed.select.condition, set)?;
+    rows_text(alloc, placed, kept, PresortedOrders::none(alloc))
 }
 
 // The text of all rows, whose order references give.
 fn referenced_text(
     alloc: Global,
-    select: &Selection,
-    places: &[usize],
+    placed: &PlacedSelect,
     set: &SegmentSet,
     refs: &[RowRef],
 ) -> Result<Vec<u8>, AnswerFault>
-    requires reads { ReadsPlaces (select_plan select.now) places.now }
-    requires sound { is_sound_select (select_plan select.now) ≡ true }
-    requires unwindowed { length (select_plan select.now).windows ≡ 0 }
-    requires all { (select_plan select.now).condition ≡ None }
-    requires order { IsOrderFor (live_rows set.now) (by_keys (select_plan select.now).keys []) refs.now }
+    requires reads { ReadsPlaces (select_plan placed.now.select.now) placed.now.places.now }
+    requires sound { is_sound_select (select_plan placed.now.select.now) ≡ true }
+    requires unwindowed { length (select_plan placed.now.select.now).windows ≡ 0 }
+    requires all { (select_plan placed.now.select.now).condition ≡ None }
+    requires order { IsOrderFor (live_rows set.now) (by_keys (select_plan placed.now.select.now).keys []) refs.now }
     ensures { Gives (λ bytes. bytes.items) result
-        (text_in (select_plan select.now) (select_of (select_plan select.now) (rows_of_set set.now))) }
+        (text_in (select_plan placed.now.select.now) (select_of (select_plan placed.now.select.now) (rows_of_set set.now))) }
 {
     let rows = referenced_rows(alloc, set, refs)?;
-    let bytes = standing_text(alloc, select, places, &rows, &[], Lie::Apart)?;
+    let bytes = standing_text(alloc, placed, &rows, &[], Layout::Scattered)?;
     Ok(bytes)
 }
 
 // The text of all rows, whose order references may give.
 fn all_text(
     alloc: Global,
-    select: &Selection,
-    places: &[usize],
+    placed: &PlacedSelect,
     set: &SegmentSet,
     orders: &TableOrders,
 ) -> Result<Vec<u8>, AnswerFault>
-    requires reads { ReadsPlaces (select_plan select.now) places.now }
-    requires sound { is_sound_select (select_plan select.now) ≡ true }
-    requires unwindowed { length (select_plan select.now).windows ≡ 0 }
-    requires all { (select_plan select.now).condition ≡ None }
-    requires orders { AreTableOrders (live_rows set.now) (select_plan select.now).keys orders.now }
+    requires reads { ReadsPlaces (select_plan placed.now.select.now) placed.now.places.now }
+    requires sound { is_sound_select (select_plan placed.now.select.now) ≡ true }
+    requires unwindowed { length (select_plan placed.now.select.now).windows ≡ 0 }
+    requires all { (select_plan placed.now.select.now).condition ≡ None }
+    requires orders { AreTableOrders (live_rows set.now) (select_plan placed.now.select.now).keys orders.now }
     ensures { Gives (λ bytes. bytes.items) result
-        (text_in (select_plan select.now) (select_of (select_plan select.now) (rows_of_set set.now))) }
+        (text_in (select_plan placed.now.select.now) (select_of (select_plan placed.now.select.now) (rows_of_set set.now))) }
 {
     match &orders.keys {
-        None => unordered_text(alloc, select, places, set),
-        Some(refs) => referenced_text(alloc, select, places, set, refs),
+        None => unordered_text(alloc, placed, set),
+        Some(refs) => referenced_text(alloc, placed, set, refs),
     }
 }
 
@@ -111,44 +108,42 @@ fn all_text(
 // for a window, their numbers are not needed.
 fn presorted_text(
     alloc: Global,
-    select: &Selection,
-    places: &[usize],
+    placed: &PlacedSelect,
     set: &SegmentSet,
     orders: TableOrders,
 ) -> Result<Vec<u8>, AnswerFault>
-    requires reads { ReadsPlaces (select_plan select.now) places.now }
-    requires sound { is_sound_select (select_plan select.now) ≡ true }
-    requires orders { AreTableOrders (live_rows set.now) (select_plan select.now).keys orders }
+    requires reads { ReadsPlaces (select_plan placed.now.select.now) placed.now.places.now }
+    requires sound { is_sound_select (select_plan placed.now.select.now) ≡ true }
+    requires orders { AreTableOrders (live_rows set.now) (select_plan placed.now.select.now).keys orders }
     ensures { Gives (λ bytes. bytes.items) result
-        (text_in (select_plan select.now) (select_of (select_plan select.now) (rows_of_set set.now))) }
+        (text_in (select_plan placed.now.select.now) (select_of (select_plan placed.now.select.now) (rows_of_set set.now))) }
 {
-    if select.condition.is_none() && is_unwindowed(select) {
-        return all_text(alloc, select, places, set, &orders);
+    if placed.select.condition.is_none() && is_unwindowed(placed.select) {
+        return all_text(alloc, placed, set, &orders);
     }
-    let kept = numbered_table_rows(alloc, &select.condition, set)?;
+    let kept = numbered_table_rows(alloc, &placed.select.condition, set)?;
     let presorted = presorted_orders(alloc, orders, &kept)?;
     let NumberedRows { rows, .. } = kept;
-    rows_text(alloc, select, places, rows, presorted)
+    rows_text(alloc, placed, rows, presorted)
 }
 
 // The text of the rows that WHERE keeps, whose orders are taken from runs, where they are by columns.
 fn text_by_runs(
     alloc: Global,
-    select: &Selection,
-    places: &[usize],
+    placed: &PlacedSelect,
     set: &mut SegmentSet,
 ) -> Result<Vec<u8>, AnswerFault>
-    requires reads { ReadsPlaces (select_plan select.now) places.now }
-    requires sound { is_sound_select (select_plan select.now) ≡ true }
+    requires reads { ReadsPlaces (select_plan placed.now.select.now) placed.now.places.now }
+    requires sound { is_sound_select (select_plan placed.now.select.now) ≡ true }
     ensures text { Gives (λ bytes. bytes.items) result
-        (text_in (select_plan select.now) (select_of (select_plan select.now) (rows_of_set set.old))) }
+        (text_in (select_plan placed.now.select.now) (select_of (select_plan placed.now.select.now) (rows_of_set set.old))) }
     ensures same { Becomes set.old set.old.view set.new }
 {
-    let orders = table_orders(alloc, select, set)?;
+    let orders = table_orders(alloc, placed.select, set)?;
     if orders.is_none() {
-        unordered_text(alloc, select, places, set)
+        unordered_text(alloc, placed, set)
     } else {
-        presorted_text(alloc, select, places, set, orders)
+        presorted_text(alloc, placed, set, orders)
     }
 }
 
@@ -157,20 +152,19 @@ fn text_by_runs(
 /// asked for that no run tells. What the set knows stays as it is; runs may be made.
 pub(crate) fn lent_text(
     alloc: Global,
-    select: &Selection,
-    places: &[usize],
+    placed: &PlacedSelect,
     set: &mut SegmentSet,
 ) -> Result<Vec<u8>, AnswerFault>
-    requires reads { ReadsPlaces (select_plan select.now) places.now }
-    requires sound { is_sound_select (select_plan select.now) ≡ true }
+    requires reads { ReadsPlaces (select_plan placed.now.select.now) placed.now.places.now }
+    requires sound { is_sound_select (select_plan placed.now.select.now) ≡ true }
     ensures text { Gives (λ bytes. bytes.items) result
-        (text_in (select_plan select.now) (select_of (select_plan select.now) (rows_of_set set.old))) }
+        (text_in (select_plan placed.now.select.now) (select_of (select_plan placed.now.select.now) (rows_of_set set.old))) }
     ensures same { Becomes set.old set.old.view set.new }
 {
-    let few = few_text(alloc, select, places, set)?;
+    let few = few_text(alloc, placed, set)?;
     match few {
         Some(bytes) => Ok(bytes),
-        None => text_by_runs(alloc, select, places, set),
+        None => text_by_runs(alloc, placed, set),
     }
 }
 

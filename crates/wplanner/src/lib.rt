@@ -17,6 +17,7 @@ mod fault;
 mod lent;
 mod orders;
 mod parts;
+mod placed;
 mod printing;
 mod selecting;
 mod table;

@@ -22,8 +22,8 @@ use wvalues::Value;
 /// The rows in the order of a window.
 #[derive(Drop)]
 pub(crate) struct KeptOrder<'a> {
-    pub window: &'a ResolvedWindow,
-    pub order: WindowOrder<'a>,
+    pub(crate) window: &'a ResolvedWindow,
+    pub(crate) order: WindowOrder<'a>,
 }
 
 // The place of an order that is also that of a window.
@@ -107,19 +107,11 @@ pub(crate) fn order_of<'a>(
     }
 }
 
-// The place of a window that shares the order of another one.
-fn place_sharing(windows: &[ResolvedWindow], window: &ResolvedWindow) -> Option<usize>
-    ensures found { is_some result ≡ list_any (is_same_order window.now) windows.now }
-    ensures place { IfSome result (λ place. place < length windows.now) }
-    ensures order { (rows : List Row) → IfSome result (λ place. (d : ResolvedWindow)
-        → ordered_rows rows (window_plan window.now) ≡ ordered_rows rows (window_plan (slice_index_or windows.now place d))) }
+// Whether one of the later windows shares the order of this one.
+fn is_shared_later(window: &ResolvedWindow, later: &[ResolvedWindow]) -> bool
+    ensures { result ≡ list_any (is_same_order window.now) later.now }
 {
-    for (place, other) in windows.iter().enumerate() {
-        if share_order(window, other) {
-            return Some(place);
-        }
-    }
-    None
+    later.iter().any(|other| share_order(window, other))
 }
 
 /// Keeps the order of a window's rows, where one of the later windows shares it.
@@ -137,11 +129,8 @@ pub(crate) fn keep_shared<'a>(
     ensures orders { (rows : List Row) → ordered_rows rows (window_plan window.entry.now) ≡ Ok order.entry
         → AreOrdersOf rows kept.old.items → AreOrdersOf rows kept.new.items }
 {
-    match place_sharing(later, window) {
-        None => Ok(()),
-        Some(_) => {
-            kept.push(KeptOrder { window, order })?;
-            Ok(())
-        }
+    if is_shared_later(window, later) {
+        kept.push(KeptOrder { window, order })?;
     }
+    Ok(())
 }

@@ -4,7 +4,7 @@ ghost use Rattle.wprinted.specs.Printing.{table_text};
 
 use crate::table::Table;
 use std::alloc::{AllocError, Global};
-use wprinted::{Lie, Row, Rows, print_rows};
+use wprinted::{Layout, Row, Rows, print_rows};
 
 impl Rows for Table {
     ghost rows = { λ table. table.rows };
@@ -21,8 +21,8 @@ impl Rows for Table {
         }
     }
 
-    fn lie(&self, _from: usize, _end: usize) -> Lie {
-        Lie::Together
+    fn layout(&self, _from: usize, _end: usize) -> Layout {
+        Layout::Contiguous
     }
 }
 

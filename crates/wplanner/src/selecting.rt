@@ -1,11 +1,12 @@
 //! What one SELECT answers.
-ghost use Rattle.std.specs.Prelude.{◌≡◌, ◌<◌, ◌^◌, true, IfOk, IfSome, List, None, Ok, Some, length};
+ghost use Rattle.std.specs.Prelude.{◌≡◌, ◌<◌, ◌^◌, true, false, IfNone, IfOk, IfSome, List, None, Ok, Some, length};
+ghost use Rattle.std.specs.Option.{ForSome};
 ghost use Rattle.wvalues.specs.Meaning.{Meaning};
 ghost use Rattle.wplan.specs.Plans.{grouping_plan, select_plan};
 ghost use Rattle.wrows.specs.Outcomes.{Gives};
 ghost use Rattle.wrows.specs.Columns.{beside};
 ghost use Rattle.wrows.specs.Laid.{rows_in, rows_seen};
-ghost use Rattle.wgroup.specs.Counting.{CountsRows};
+ghost use Rattle.wgroup.specs.Counting.{CountsRows, counts_rows};
 ghost use Rattle.wplanner.specs.Answers.{grouped_items, items_of, kept_items, left_items, select_of};
 ghost use Rattle.wtable.specs.Few.{MayGive};
 ghost use Rattle.wplanner.specs.Sound.{is_sound_select};
@@ -23,9 +24,7 @@ use wcalls::{key_orders, key_values, lent_columns, listed_columns};
 use wcolumns::Column;
 use wgroup::{counted_row, counts_rows, group_rows};
 use wplan::{Grouping, Selection};
-use wrows::{
-    AnswerFault, Cells, joined_items, kept_rows, lent_rows, ordered_items, presorted_items,
-};
+use wrows::{AnswerFault, Cells, joined_items, kept_rows, lent_rows, presorted_items};
 use wset::SegmentSet;
 use wtable::{
     PresortedOrders, TableOrders, asked_of, few_kept_rows, kept_count, kept_table_rows,
@@ -56,18 +55,6 @@ fn presorted_items_of(
     presorted_items(alloc, &items, numbers, asked_of(select), rows, columns)
 }
 
-// The items of some rows, in order and cut.
-fn items_of(alloc: Global, select: &Selection, rows: &[&[Value]]) -> Result<Cells, AnswerFault>
-    ensures rows { Gives rows_in result (items_of (select_plan select.now) (rows_seen rows.now)) }
-    ensures width { IfOk result (λ cells. cells.width ≡ length select.now.items.items) }
-{
-    let items = item_values(alloc, &select.items)?;
-    let keys = key_values(alloc, &select.keys)?;
-    let order = key_orders(alloc, &select.keys)?;
-    let asked = asked_of(select);
-    ordered_items(alloc, &items, &keys, &order, asked, rows)
-}
-
 // The items of rows that have the values of some columns behind their cells, in order and cut.
 fn items_beside(
     alloc: Global,
@@ -83,24 +70,6 @@ fn items_beside(
     let order = key_orders(alloc, &select.keys)?;
     let asked = asked_of(select);
     joined_items(alloc, &items, &keys, &order, asked, rows, columns)
-}
-
-// The items of some rows, in order and cut, where the order may be presorted.
-fn items_by(
-    alloc: Global,
-    select: &Selection,
-    rows: &[&[Value]],
-    presorted: Option<Vec<u32>>,
-) -> Result<Cells, AnswerFault>
-    requires { IfSome presorted (λ numbers. (columns : List (List Meaning))
-        → by_keys (select_plan select.now).keys columns (rows_seen rows.now) ≡ Ok numbers.items) }
-    ensures rows { Gives rows_in result (items_of (select_plan select.now) (rows_seen rows.now)) }
-    ensures width { IfOk result (λ cells. cells.width ≡ length select.now.items.items) }
-{
-    match presorted {
-        Some(numbers) => presorted_items_of(alloc, select, rows, &[], numbers),
-        None => items_of(alloc, select, rows),
-    }
 }
 
 // The items of rows that have the values of some columns behind their cells, in order and cut, where the order may be presorted.
@@ -161,7 +130,7 @@ pub(crate) fn left_items(
 {
     count_order(select, &mut work.orders);
     if select.windows.is_empty() {
-        items_by(alloc, select, rows, presorted.keys)
+        items_beside_by(alloc, select, rows, &[], presorted.keys)
     } else {
         called_items(alloc, select, rows, presorted, work)
     }
@@ -298,6 +267,7 @@ fn counted_grouping(select: &Selection) -> Option<&Grouping>
     ensures counts { IfSome result (λ grouping. CountsRows (grouping_plan grouping.now)) }
     ensures all { IfSome result (λ grouping. (select_plan select.now).condition ≡ None) }
     ensures own { IfSome result (λ grouping. (select_plan select.now).grouping ≡ Some (grouping_plan grouping.now)) }
+    ensures found { IfNone result (select.now.condition ≡ None → ForSome select.now.grouping (λ grouping. counts_rows grouping ≡ false)) }
 {
     let None = &select.condition else {
         return None;
@@ -396,7 +366,7 @@ fn select_listed(
 /// What one SELECT answers on the rows of the set's live segments. Orders of them by columns are taken from the runs that the
 /// segments keep, and runs that are missing are made; nothing else of the set changes. Where WHERE keeps few rows these are put
 /// in order by themselves, and no run is made. Where it only counts them, or only asks for columns of the first few in an order by
-/// columns, no list of them is made.
+/// columns, it is to take less than a list of them all; of that, as of the use of runs, no clause says anything, and it is measured.
 pub(crate) fn select_table_rows(
     alloc: Global,
     select: &Selection,

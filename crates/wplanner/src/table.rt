@@ -1,5 +1,5 @@
 //! The table of an answer.
-ghost use Rattle.std.specs.Prelude.{◌≡◌, ◌+◌, ◌<◌, ◌≤◌, [], IfOk, drop, length, map, slice_index_or, take, vec_len};
+ghost use Rattle.std.specs.Prelude.{◌≡◌, ◌<◌, [], IfOk, length, map, slice_index_or, vec_len};
 ghost use Rattle.std.specs.Rc.{rc_str_bytes};
 ghost use Rattle.wvalues.specs.Meaning.{meaning};
 ghost use Rattle.wframe.specs.Places.{places};
@@ -11,7 +11,7 @@ use crate::work::Work;
 use std::alloc::{AllocError, Global};
 use std::marker::Model;
 use std::rc::RcStr;
-use wrows::Cells;
+use wrows::{Cells, slice_of};
 use wvalues::Value;
 
 /// Output names, and rows with a value under each name. Rows and columns are counted from 0.
@@ -46,14 +46,6 @@ fn column_places(alloc: Global, width: usize) -> Result<Vec<usize>, AllocError>
         columns.push(column)?;
     }
     Ok(columns)
-}
-
-/// The cells of a row, from its first one on.
-pub(crate) fn cells_from(cells: &[Value], start: usize, width: usize) -> &[Value]
-    requires { start + width ≤ length cells.now }
-    ensures { result.now ≡ take width (drop start cells.now) }
-{
-    &cells[start..start + width]
 }
 
 impl Table {
@@ -111,7 +103,7 @@ impl Table {
         ensures whole { length result.now ≡ length self.now.names }
     {
         let width = self.names.len();
-        cells_from(&self.cells, row * width, width)
+        slice_of(&self.cells, width, row)
     }
 
     /// The value of a row and a column.

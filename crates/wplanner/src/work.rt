@@ -7,9 +7,9 @@ use waggregate::Tally;
 #[derive(Drop)]
 pub(crate) struct Work {
     /// How many joins the folds of frames took.
-    pub joins: Tally,
+    pub(crate) joins: Tally,
     /// How many orders of rows were made, of windows and of ORDER BY.
-    pub orders: Tally,
+    pub(crate) orders: Tally,
 }
 
 impl Work {

@@ -76,3 +76,8 @@ module _ (ps : List ℕ) (row : List Meaning) (behind : List ℕ) where
 pub if-none : {X A B : Type 0} (result : Option X) → (A → B) → IfNone result A → IfNone result B
 if-none None then h = then h
 if-none (Some x) then h = h
+
+-- what holds anyway holds where there is no result
+pub none-keeps : {X A : Type 0} (result : Option X) → A → IfNone result A
+none-keeps None h = h
+none-keeps (Some x) h = tt

@@ -1,10 +1,10 @@
 //! Rows that are looked at before they are printed.
 ghost use Rattle.std.specs.Prelude.{◌≡◌, ◌<◌, ◌≤◌, length};
-ghost use Rattle.wvalues.specs.Meaning.{Null, meaning};
 
-use crate::batch::BATCH;
+use crate::batch::{BATCH, Batch};
+use crate::printed::Printed;
 use crate::row::{Row, field_at};
-use crate::rows::{Lie, Rows};
+use crate::rows::{Layout, Rows};
 use wcolumns::{Column, Field, OtherRows};
 use wvalues::Value;
 
@@ -22,38 +22,39 @@ fn room_for(field: Field<'_>) -> usize {
 }
 
 // The bytes that the texts of some rows at a place take, but for most of their quotes.
-fn room_at<R: Rows>(rows: &R, null: &Value, place: usize, from: usize, end: usize) -> usize
-    requires null { meaning null.now ≡ Null }
-    requires within { end ≤ length (R.rows rows.now) }
+fn room_at<R: Rows>(printed: &Printed<'_, R>, place: usize, batch: Batch) -> usize
+    requires { batch.end ≤ length (R.rows printed.now.rows.now) }
 {
     let mut room: usize = 0;
-    for next in from..end {
-        room = room.saturating_add(room_for(field_at(&rows.row(next), null, place)));
+    for next in batch.from..batch.end {
+        room = room.saturating_add(room_for(field_at(
+            &printed.rows.row(next),
+            printed.null,
+            place,
+        )));
     }
     room
 }
 
 // Whether the values of some rows at a place seem to be numbers, by the first of them.
-fn are_numbers<R: Rows>(rows: &R, null: &Value, place: usize, from: usize) -> bool
-    requires null { meaning null.now ≡ Null }
-    requires within { from < length (R.rows rows.now) }
+fn are_numbers<R: Rows>(printed: &Printed<'_, R>, place: usize, from: usize) -> bool
+    requires { from < length (R.rows printed.now.rows.now) }
 {
     matches!(
-        field_at(&rows.row(from), null, place),
+        field_at(&printed.rows.row(from), printed.null, place),
         Field::Count(_) | Field::Value(Value::Int(_))
     )
 }
 
 // Whether one of some rows has a text at a place. Each is read, whatever was found before.
-fn hold_text<R: Rows>(rows: &R, null: &Value, place: usize, from: usize, end: usize) -> bool
-    requires null { meaning null.now ≡ Null }
-    requires within { end ≤ length (R.rows rows.now) }
+fn hold_text<R: Rows>(printed: &Printed<'_, R>, place: usize, batch: Batch) -> bool
+    requires { batch.end ≤ length (R.rows printed.now.rows.now) }
 {
     let mut found = false;
-    for next in from..end {
+    for next in batch.from..batch.end {
         if let Field::Value(Value::Short(_) | Value::Shared(_)) = field_at(
-            &rows.row(next),
-            null,
+            &printed.rows.row(next),
+            printed.null,
             place,
         ) {
             found = true;
@@ -81,26 +82,19 @@ fn numbers_from<'a>(others: &'a OtherRows<'_>, from: usize, count: usize) -> &'a
 
 // Whether one of some rows seems to have a text at a place, where they lie so. Counts are numbers, and what other rows have lies apart
 // even where the rows lie together.
-fn seem_texts<R: Rows>(
-    rows: &R,
-    null: &Value,
-    place: usize,
-    from: usize,
-    end: usize,
-    lie: Lie,
-) -> bool
-    requires null { meaning null.now ≡ Null }
-    requires ordered { from < end }
-    requires within { end ≤ length (R.rows rows.now) }
+fn seem_texts<R: Rows>(printed: &Printed<'_, R>, place: usize, batch: Batch, layout: Layout) -> bool
+    requires ordered { batch.from < batch.end }
+    requires within { batch.end ≤ length (R.rows printed.now.rows.now) }
 {
-    let first = rows.row(from);
-    match (column_at(&first, place), lie) {
+    let first = printed.rows.row(batch.from);
+    match (column_at(&first, place), layout) {
         (Some(Column::Counts(_)), _) => false,
-        (Some(Column::Others(others)), Lie::Together) => {
-            others.hold_text(null, numbers_from(others, first.number, end - from))
+        (Some(Column::Others(others)), Layout::Contiguous) => {
+            let count = batch.end - batch.from;
+            others.hold_text(printed.null, numbers_from(others, first.number, count))
         }
-        (_, Lie::Together) => !are_numbers(rows, null, place, from),
-        (_, Lie::Apart) => hold_text(rows, null, place, from, end),
+        (_, Layout::Contiguous) => !are_numbers(printed, place, batch.from),
+        (_, Layout::Scattered) => hold_text(printed, place, batch),
     }
 }
 
@@ -110,26 +104,22 @@ fn seem_texts<R: Rows>(
 /// they lie together, places of numbers are left out, since their cells are near. Values that other rows have lie apart however the
 /// rows lie, and are looked at by the numbers that are kept for them; counts are left out. Where the texts find no room, they make
 /// it as they are added: this is a matter of speed alone.
-pub(crate) fn look_ahead<R: Rows>(
-    bytes: &mut Vec<u8>,
-    rows: &R,
-    null: &Value,
-    places: &[usize],
-    row: usize,
-)
-    requires null { meaning null.now ≡ Null }
-    requires within { row < length (R.rows rows.now) }
+pub(crate) fn look_ahead<R: Rows>(bytes: &mut Vec<u8>, printed: &Printed<'_, R>, row: usize)
+    requires { row < length (R.rows printed.now.rows.now) }
     ensures { bytes.new.items ≡ bytes.old.items }
 {
     if row % AHEAD != 0 {
         return;
     }
-    let end = rows.count().min(row.saturating_add(AHEAD));
-    let lie = rows.lie(row, end);
+    let batch = Batch {
+        from: row,
+        end: printed.rows.count().min(row.saturating_add(AHEAD)),
+    };
+    let layout = printed.rows.layout(batch.from, batch.end);
     let mut room: usize = 0;
-    for place in places {
-        if seem_texts(rows, null, *place, row, end, lie) {
-            room = room.saturating_add(room_at(rows, null, *place, row, end));
+    for place in printed.places {
+        if seem_texts(printed, *place, batch, layout) {
+            room = room.saturating_add(room_at(printed, *place, batch));
         }
     }
     let _ = bytes.reserve(room);

@@ -6,6 +6,7 @@ ghost use Rattle.wprinted.specs.Printing.{field_text, line_text, lines_text, row
 
 use crate::field::push_field;
 use crate::line::write_line;
+use crate::printed::Printed;
 use crate::row::{Row, field_at};
 use crate::rows::Rows;
 use std::alloc::AllocError;
@@ -54,36 +55,26 @@ fn push_values(
 // Adds the lines of a batch, value by value.
 fn push_each<R: Rows>(
     bytes: &mut Vec<u8>,
-    rows: &R,
-    null: &Value,
-    places: &[usize],
+    printed: &Printed<'_, R>,
     batch: Batch,
 ) -> Result<(), AllocError>
-    requires null { meaning null.now ≡ Null }
     requires ordered { batch.from ≤ batch.end }
-    requires within { batch.end ≤ length (R.rows rows.now) }
+    requires within { batch.end ≤ length (R.rows printed.now.rows.now) }
     ensures { OnOk result (bytes.new.items ≡ bytes.old.items
-        ++ lines_text (rows_between batch.from batch.end (map (values_at places.now) (R.rows rows.now)))) }
+        ++ lines_text (rows_between batch.from batch.end (map (values_at printed.now.places.now) (R.rows printed.now.rows.now)))) }
 {
     for row in batch.from..batch.end {
-        push_values(bytes, &rows.row(row), null, places)?;
+        push_values(bytes, &printed.rows.row(row), printed.null, printed.places)?;
     }
     Ok(())
 }
 
 // Writes the lines of a batch, the last one first, up to one that has no room or has a number of more than 64 bits.
-fn write_lines<R: Rows>(
-    rows: &R,
-    null: &Value,
-    places: &[usize],
-    batch: Batch,
-    lines: &mut [u8],
-) -> Written
-    requires null { meaning null.now ≡ Null }
+fn write_lines<R: Rows>(printed: &Printed<'_, R>, batch: Batch, lines: &mut [u8]) -> Written
     requires ordered { batch.from ≤ batch.end }
-    requires within { batch.end ≤ length (R.rows rows.now) }
+    requires within { batch.end ≤ length (R.rows printed.now.rows.now) }
     ensures written { drop result.start lines.new
-        ≡ lines_text (rows_between result.row batch.end (map (values_at places.now) (R.rows rows.now))) }
+        ≡ lines_text (rows_between result.row batch.end (map (values_at printed.now.places.now) (R.rows printed.now.rows.now))) }
     ensures start { result.start ≤ length lines.new }
     ensures first { batch.from ≤ result.row }
     ensures last { result.row ≤ batch.end }
@@ -91,7 +82,13 @@ fn write_lines<R: Rows>(
     let mut row = batch.end;
     let mut start = lines.len();
     while row > batch.from {
-        let Some(before) = write_line(&rows.row(row - 1), null, places, lines, start) else {
+        let Some(before) = write_line(
+            &printed.rows.row(row - 1),
+            printed.null,
+            printed.places,
+            lines,
+            start,
+        ) else {
             return Written { row, start };
         };
         row -= 1;
@@ -103,24 +100,21 @@ fn write_lines<R: Rows>(
 /// Adds the lines of a batch. They are written beside first, as many of the last ones as can be, and added as a whole.
 pub(crate) fn push_batch<R: Rows>(
     bytes: &mut Vec<u8>,
-    rows: &R,
-    null: &Value,
-    places: &[usize],
+    printed: &Printed<'_, R>,
     batch: Batch,
     lines: &mut [u8],
 ) -> Result<(), AllocError>
-    requires null { meaning null.now ≡ Null }
     requires ordered { batch.from ≤ batch.end }
-    requires within { batch.end ≤ length (R.rows rows.now) }
+    requires within { batch.end ≤ length (R.rows printed.now.rows.now) }
     ensures { OnOk result (bytes.new.items ≡ bytes.old.items
-        ++ lines_text (rows_between batch.from batch.end (map (values_at places.now) (R.rows rows.now)))) }
+        ++ lines_text (rows_between batch.from batch.end (map (values_at printed.now.places.now) (R.rows printed.now.rows.now)))) }
 {
-    let written = write_lines(rows, null, places, batch, lines);
+    let written = write_lines(printed, batch, lines);
     let before = Batch {
         from: batch.from,
         end: written.row,
     };
-    push_each(bytes, rows, null, places, before)?;
+    push_each(bytes, printed, before)?;
     bytes.extend_from_slice(&lines[written.start..])?;
     Ok(())
 }

@@ -14,10 +14,11 @@ mod ahead;
 mod batch;
 mod field;
 mod line;
+mod printed;
 mod printing;
 mod row;
 mod rows;
 
 pub use printing::print_rows;
 pub use row::Row;
-pub use rows::{Lie, PickedRows, Rows, RowsBeside};
+pub use rows::{Layout, PickedRows, Rows, RowsBeside};

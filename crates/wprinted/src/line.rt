@@ -1,5 +1,5 @@
 //! Lines that are written from their last byte to their first, in room that is there already.
-ghost use Rattle.std.specs.Prelude.{◌≡◌, ◌≤◌, ◌++◌, ◌∷◌, IfNone, IfSome, drop, if◌then◌else◌, length, map};
+ghost use Rattle.std.specs.Prelude.{◌≡◌, ◌⊎◌, ◌≤◌, ◌^◌, ◌++◌, ◌∷◌, IfNone, IfSome, drop, if◌then◌else◌, length, map, unsigned_abs};
 ghost use Rattle.std.specs.Fmt.{decimal, signed_decimal};
 ghost use Rattle.wvalues.specs.Meaning.{Null, meaning};
 ghost use Rattle.wcolumns.specs.Columns.{field_seen};
@@ -15,10 +15,12 @@ use wvalues::Value;
 /// The most digits of a number of 64 bits.
 const DIGITS: usize = 20;
 
-// Writes a number so that it ends before a place, and answers where it begins. None where it has no room, or is too long.
+// Writes a number so that it ends before a place, and answers where it begins. None where at most 20 bytes are before the place,
+// however few it takes, or it has more than 64 bits, and nowhere else.
 #[inline(always)]
 fn write_number(number: i128, line: &mut [u8], end: usize) -> Option<usize>
     requires { end ≤ length line.old }
+    ensures none { IfNone result ((end ≤ 20) ⊎ (2 ^ 64 ≤ unsigned_abs number)) }
     ensures written { IfSome result (λ start. drop start line.new ≡ signed_decimal number ++ drop end line.old) }
     ensures within { IfSome result (λ start. start ≤ end) }
     ensures room { length line.new ≡ length line.old }
@@ -36,10 +38,11 @@ fn write_number(number: i128, line: &mut [u8], end: usize) -> Option<usize>
     Some(start - 1)
 }
 
-// Writes a count so that it ends before a place, and answers where it begins. None where it has no room.
+// Writes a count so that it ends before a place, and answers where it begins. None only where at most 20 bytes are before the place.
 #[inline(always)]
 fn write_count(count: u32, line: &mut [u8], end: usize) -> Option<usize>
     requires { end ≤ length line.old }
+    ensures none { IfNone result (end ≤ 20) }
     ensures written { IfSome result (λ start. drop start line.new ≡ decimal count ++ drop end line.old) }
     ensures within { IfSome result (λ start. start ≤ end) }
     ensures room { length line.new ≡ length line.old }
@@ -51,10 +54,11 @@ fn write_count(count: u32, line: &mut [u8], end: usize) -> Option<usize>
     Some(write_digits(count as u64, line, end))
 }
 
-// Writes a byte before a place, and answers where it stands, if it can.
+// Writes a byte before a place, and answers where it stands. None only where nothing is before the place.
 #[inline(always)]
 fn write_byte(byte: u8, line: &mut [u8], end: usize) -> Option<usize>
     requires { end ≤ length line.old }
+    ensures none { IfNone result (end ≡ 0) }
     ensures written { IfSome result (λ start. drop start line.new ≡ byte ∷ drop end line.old) }
     ensures within { IfSome result (λ start. start ≤ end) }
     ensures room { length line.new ≡ length line.old }
@@ -75,9 +79,7 @@ fn write_doubled(byte: u8, line: &mut [u8], end: usize) -> Option<usize>
     ensures room { length line.new ≡ length line.old }
     ensures kept { IfNone result (drop end line.new ≡ drop end line.old) }
 {
-    let Some(start) = write_byte(byte, line, end) else {
-        return None;
-    };
+    let start = write_byte(byte, line, end)?;
     if byte == b'"' {
         return write_byte(byte, line, start);
     }
@@ -92,16 +94,11 @@ fn write_quoted(text: &[u8], line: &mut [u8], end: usize) -> Option<usize>
     ensures room { length line.new ≡ length line.old }
     ensures kept { IfNone result (drop end line.new ≡ drop end line.old) }
 {
-    let Some(mut at) = write_byte(b'"', line, end) else {
-        return None;
-    };
+    let mut at = write_byte(b'"', line, end)?;
     let mut left = text.len();
     while left > 0 {
         left -= 1;
-        match write_doubled(text[left], line, at) {
-            None => return None,
-            Some(start) => at = start,
-        }
+        at = write_doubled(text[left], line, at)?;
     }
     write_byte(b'"', line, at)
 }
@@ -184,9 +181,7 @@ fn write_field(field: Field<'_>, is_last: bool, line: &mut [u8], end: usize) -> 
     ensures room { length line.new ≡ length line.old }
     ensures kept { IfNone result (drop end line.new ≡ drop end line.old) }
 {
-    let Some(behind) = write_comma(is_last, line, end) else {
-        return None;
-    };
+    let behind = write_comma(is_last, line, end)?;
     write_field_text(field, line, behind)
 }
 
@@ -208,17 +203,12 @@ pub(crate) fn write_line(
     ensures room { length line.new ≡ length line.old }
     ensures kept { IfNone result (drop end line.new ≡ drop end line.old) }
 {
-    let Some(mut at) = write_byte(b'\n', line, end) else {
-        return None;
-    };
+    let mut at = write_byte(b'\n', line, end)?;
     let mut left = places.len();
     while left > 0 {
         let is_last = left == places.len();
         left -= 1;
-        match write_field(field_at(&*row, null, places[left]), is_last, line, at) {
-            None => return None,
-            Some(start) => at = start,
-        }
+        at = write_field(field_at(&*row, null, places[left]), is_last, line, at)?;
     }
     Some(at)
 }

@@ -2,12 +2,12 @@
 ghost use Rattle.std.specs.Prelude.{◌≡◌, ◌≤◌, ◌++◌, IfOk, OnOk, map};
 ghost use Rattle.std.specs.List.{flat_map};
 ghost use Rattle.std.specs.Rc.{rc_str_bytes};
-ghost use Rattle.wvalues.specs.Meaning.{Null, meaning};
 ghost use Rattle.wprinted.specs.Printing.{field_text, line_text, table_text, text_field, values_at};
 
 use crate::ahead::look_ahead;
 use crate::batch::{BATCH, Batch, LINES, push_batch};
 use crate::field::push_text;
+use crate::printed::Printed;
 use crate::rows::Rows;
 use std::alloc::{AllocError, Global};
 use std::rc::RcStr;
@@ -45,31 +45,18 @@ fn foresee(bytes: &mut Vec<u8>, done: usize, count: usize)
 }
 
 // Adds the lines of the values of all rows at some places.
-fn push_rows<R: Rows>(
-    bytes: &mut Vec<u8>,
-    rows: &R,
-    null: &Value,
-    places: &[usize],
-) -> Result<(), AllocError>
-    requires { meaning null.now ≡ Null }
+fn push_rows<R: Rows>(bytes: &mut Vec<u8>, printed: &Printed<'_, R>) -> Result<(), AllocError>
     ensures { OnOk result (bytes.new.items ≡ bytes.old.items ++ flat_map (λ row. line_text (map field_text row))
-        (map (values_at places.now) (R.rows rows.now))) }
+        (map (values_at printed.now.places.now) (R.rows printed.now.rows.now))) }
 {
     let mut lines = [0u8; LINES];
-    let count = rows.count();
+    let count = printed.rows.count();
     let mut row = 0;
     while row < count {
         foresee(bytes, row, count);
-        look_ahead(bytes, rows, null, places, row);
+        look_ahead(bytes, printed, row);
         let end = count.min(row.saturating_add(BATCH));
-        push_batch(
-            bytes,
-            rows,
-            null,
-            places,
-            Batch { from: row, end },
-            &mut lines,
-        )?;
+        push_batch(bytes, printed, Batch { from: row, end }, &mut lines)?;
         row = end;
     }
     Ok(())
@@ -90,6 +77,11 @@ pub fn print_rows<R: Rows>(
     let mut bytes = Vec::new(alloc);
     push_names(&mut bytes, names)?;
     let null = Value::Null;
-    push_rows(&mut bytes, rows, &null, places)?;
+    let printed = Printed {
+        rows,
+        null: &null,
+        places,
+    };
+    push_rows(&mut bytes, &printed)?;
     Ok(bytes)
 }

@@ -8,13 +8,13 @@ use crate::row::Row;
 use wcolumns::LentColumn;
 use wvalues::Value;
 
-/// How rows lie in memory: one behind another, or apart, in an order of their own. This is a matter of speed alone.
+/// How rows lie in memory: one behind another, or scattered, in an order of their own. This is a matter of speed alone.
 #[derive(Clone, Copy)]
-pub enum Lie {
+pub enum Layout {
     /// One behind another.
-    Together,
-    /// Apart.
-    Apart,
+    Contiguous,
+    /// Far apart.
+    Scattered,
 }
 
 /// Rows of values, by number.
@@ -32,7 +32,7 @@ pub trait Rows {
         ensures { values_of result ≡ slice_index_or (rows self.now) number [] };
 
     /// How the rows from one on up to another lie.
-    fn lie(&self, from: usize, end: usize) -> Lie
+    fn layout(&self, from: usize, end: usize) -> Layout
         requires ordered { from < end }
         requires within { end ≤ length (rows self.now) };
 }
@@ -44,7 +44,7 @@ pub struct RowsBeside<'a> {
     pub columns: &'a [LentColumn<'a>],
     pub from: usize,
     pub count: usize,
-    pub lie: Lie,
+    pub layout: Layout,
 }
 
 impl<'a> Rows for RowsBeside<'a> {
@@ -63,8 +63,8 @@ impl<'a> Rows for RowsBeside<'a> {
         }
     }
 
-    fn lie(&self, _from: usize, _end: usize) -> Lie {
-        self.lie
+    fn layout(&self, _from: usize, _end: usize) -> Layout {
+        self.layout
     }
 }
 
@@ -104,13 +104,13 @@ impl<'a> Rows for PickedRows<'a> {
     }
 
     // By the numbers of the first and the last of them.
-    fn lie(&self, from: usize, end: usize) -> Lie {
+    fn layout(&self, from: usize, end: usize) -> Layout {
         let first = self.numbers[from] as usize;
         let last = self.numbers[end - 1] as usize;
         if last.wrapping_sub(first) == end - 1 - from {
-            Lie::Together
+            Layout::Contiguous
         } else {
-            Lie::Apart
+            Layout::Scattered
         }
     }
 }

@@ -8,3 +8,4 @@ pub mod PlainColumns
 pub use Rattle.wsort.specs.LaidRows
 pub use Rattle.wcodes.specs.CodedRows
 pub use Rattle.wsort.specs.Dealt
+pub mod Extended

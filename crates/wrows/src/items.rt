@@ -3,10 +3,12 @@ ghost use Rattle.std.specs.Prelude.{◌≡◌, ◌≤◌, ◌<◌, ◌+◌, ◌-
 ghost use Rattle.wrows.specs.Outcomes.{Gives};
 ghost use Rattle.wrows.specs.Laid.{formulas_seen, rows_in, rows_seen};
 ghost use Rattle.wrows.specs.Columns.{beside, lists_of};
+ghost use Rattle.wrows.specs.Extended.{extended_rows};
 ghost use Rattle.wrows.specs.Plain.{at_most_limit, cut, is_selected, ordered_of};
 ghost use Rattle.wrows.specs.Picked.{asked_of};
 
 use crate::cells::Cells;
+use crate::extended::ExtendedRows;
 use crate::fault::AnswerFault;
 use crate::first_rows::{MOST_SELECTED, first_by_keys};
 use crate::listing::evaluated_beside;
@@ -45,12 +47,12 @@ fn is_few(offset: u128, limit: u128) -> bool
     offset <= most && limit <= most - offset
 }
 
-// How many rows are left out first.
-fn skipped(offset: u128, count: usize) -> usize
-    ensures { result ≡ min offset count }
+// A number, or a count where it is larger.
+fn at_most(number: u128, count: usize) -> usize
+    ensures { result ≡ min number count }
 {
-    if offset < count as u128 {
-        offset as usize
+    if number < count as u128 {
+        number as usize
     } else {
         count
     }
@@ -63,7 +65,7 @@ fn limited(limit: Option<u128>, count: usize) -> usize
 {
     match limit {
         None => count,
-        Some(limit) => skipped(limit, count),
+        Some(limit) => at_most(limit, count),
     }
 }
 
@@ -73,7 +75,7 @@ pub fn asked_for(asked: Asked, count: usize) -> (usize, usize)
     ensures count { result.1 ≡ at_most_limit asked.limit (count - result.0) }
     ensures within { result.0 + result.1 ≤ count }
 {
-    let from = skipped(asked.offset, count);
+    let from = at_most(asked.offset, count);
     (from, limited(asked.limit, count - from))
 }
 
@@ -98,30 +100,29 @@ pub(crate) fn cut_numbers(
 // The numbers of the rows that are asked for, by their keys and then by number.
 fn asked_numbers(
     alloc: Global,
-    keys: &[&Expr],
-    order: &[SortKey],
+    key_exprs: &[&Expr],
+    keys: &[SortKey],
     asked: Asked,
-    rows: &[&[Value]],
-    columns: &[&[Value]],
+    extended: &ExtendedRows,
 ) -> Result<Vec<u32>, AnswerFault>
-    requires { length keys.now ≡ length order.now }
-    ensures gives { Gives (λ numbers. numbers.items) result (asked_of (formulas_seen keys.now) order.now asked.offset
-        asked.limit (beside (rows_seen rows.now) (rows_seen columns.now))) }
-    ensures below { IfOk result (λ numbers. All (λ i. i < length rows.now) numbers.items) }
+    requires { length key_exprs.now ≡ length keys.now }
+    ensures gives { Gives (λ numbers. numbers.items) result (asked_of (formulas_seen key_exprs.now) keys.now asked.offset
+        asked.limit (extended_rows extended.now)) }
+    ensures below { IfOk result (λ numbers. All (λ i. i < length extended.now.rows.now) numbers.items) }
 {
-    let (from, count) = asked_for(asked, rows.len());
-    let first = first_by_keys(alloc, keys, order, from + count, rows, columns)?;
+    let (from, count) = asked_for(asked, extended.rows.len());
+    let first = first_by_keys(alloc, key_exprs, keys, from + count, extended)?;
     let numbers = cut_numbers(alloc, first, asked)?;
     Ok(numbers)
 }
 
 // Whether rows are asked for as they stand: by no key, and all of them.
-fn asks_for_all(order: &[SortKey], asked: Asked) -> bool
-    ensures keys { result ≡ true → length order.now ≡ 0 }
+fn asks_for_all(keys: &[SortKey], asked: Asked) -> bool
+    ensures keys { result ≡ true → length keys.now ≡ 0 }
     ensures offset { result ≡ true → asked.offset ≡ 0 }
     ensures limit { result ≡ true → asked.limit ≡ None }
 {
-    if !order.is_empty() {
+    if !keys.is_empty() {
         return false;
     }
     if asked.offset != 0 {
@@ -131,61 +132,61 @@ fn asks_for_all(order: &[SortKey], asked: Asked) -> bool
 }
 
 // The items of all rows, as they stand.
-fn all_items(
-    alloc: Global,
-    items: &[&Expr],
-    rows: &[&[Value]],
-    columns: &[&[Value]],
-) -> Result<Cells, AnswerFault>
+fn all_items(alloc: Global, items: &[&Expr], extended: &ExtendedRows) -> Result<Cells, AnswerFault>
     ensures width { IfOk result (λ cells. cells.width ≡ length items.now) }
-    ensures rows { Gives rows_in result (lists_of (formulas_seen items.now) (beside (rows_seen rows.now) (rows_seen columns.now))) }
+    ensures rows { Gives rows_in result (lists_of (formulas_seen items.now) (extended_rows extended.now)) }
 {
-    let cells = evaluated_beside(alloc, items, rows, columns)?;
+    let cells = evaluated_beside(alloc, items, extended)?;
     Ok(Cells {
         cells,
         width: items.len(),
-        count: rows.len(),
+        count: extended.rows.len(),
     })
 }
 
 /// The items of the rows that are asked for, in the order of the keys and then by number; behind each row's cells stand
-/// the values of some columns. All items and keys are evaluated on every row, asked for or not; where all items are plain
-/// columns, which cannot be out of range, they are read of the rows that are asked for alone. One row with what stands
-/// behind its cells lies in memory at a time.
+/// the values of some columns: column `c` of a row is at place `row.len() + c`. All items and keys are evaluated on every row, asked
+/// for or not; where all items are plain columns, which cannot be out of range, they are read of the rows that are asked for alone.
 pub fn joined_items(
     alloc: Global,
     items: &[&Expr],
-    keys: &[&Expr],
-    order: &[SortKey],
+    key_exprs: &[&Expr],
+    keys: &[SortKey],
     asked: Asked,
     rows: &[&[Value]],
     columns: &[&[Value]],
 ) -> Result<Cells, AnswerFault>
-    requires { length keys.now ≡ length order.now }
+    requires { length key_exprs.now ≡ length keys.now }
     ensures width { IfOk result (λ cells. cells.width ≡ length items.now) }
-    ensures rows { Gives rows_in result (ordered_of (formulas_seen items.now) (formulas_seen keys.now) order.now
+    ensures rows { Gives rows_in result (ordered_of (formulas_seen items.now) (formulas_seen key_exprs.now) keys.now
         asked.offset asked.limit (beside (rows_seen rows.now) (rows_seen columns.now))) }
 {
-    if asks_for_all(order, asked) {
-        return all_items(alloc, items, rows, columns);
+    let null = Value::Null;
+    let extended = ExtendedRows {
+        rows,
+        columns,
+        null: &null,
+    };
+    if asks_for_all(keys, asked) {
+        return all_items(alloc, items, &extended);
     }
-    let numbers = asked_numbers(alloc, keys, order, asked, rows, columns)?;
-    items_at(alloc, items, &numbers, rows, columns)
+    let numbers = asked_numbers(alloc, key_exprs, keys, asked, &extended)?;
+    items_at(alloc, items, &numbers, &extended)
 }
 
 /// The same of rows that have nothing behind their cells.
 pub fn ordered_items(
     alloc: Global,
     items: &[&Expr],
-    keys: &[&Expr],
-    order: &[SortKey],
+    key_exprs: &[&Expr],
+    keys: &[SortKey],
     asked: Asked,
     rows: &[&[Value]],
 ) -> Result<Cells, AnswerFault>
-    requires { length keys.now ≡ length order.now }
+    requires { length key_exprs.now ≡ length keys.now }
     ensures width { IfOk result (λ cells. cells.width ≡ length items.now) }
-    ensures rows { Gives rows_in result (ordered_of (formulas_seen items.now) (formulas_seen keys.now) order.now
+    ensures rows { Gives rows_in result (ordered_of (formulas_seen items.now) (formulas_seen key_exprs.now) keys.now
         asked.offset asked.limit (rows_seen rows.now)) }
 {
-    joined_items(alloc, items, keys, order, asked, rows, &[])
+    joined_items(alloc, items, key_exprs, keys, asked, rows, &[])
 }

@@ -2,11 +2,13 @@
 ghost use Rattle.std.specs.Prelude.{◌≡◌, ◌*◌, ◌++◌, IfOk, OnOk, length, map};
 ghost use Rattle.wvalues.specs.Meaning.{meaning};
 ghost use Rattle.wrows.specs.Outcomes.{Gives};
-ghost use Rattle.wrows.specs.Columns.{beside, lists_of, value_at};
+ghost use Rattle.wrows.specs.Columns.{lists_of, value_at};
+ghost use Rattle.wrows.specs.Extended.{extended_rows};
 ghost use Rattle.wsort.specs.LaidRows.{laid};
-ghost use Rattle.wrows.specs.Laid.{formulas_seen, rows_seen};
+ghost use Rattle.wrows.specs.Laid.{formulas_seen};
 
 use crate::cells::push_row;
+use crate::extended::ExtendedRows;
 use crate::fault::AnswerFault;
 use crate::rows::push_values;
 use std::alloc::{AllocError, Global};
@@ -56,17 +58,16 @@ fn fill(
 pub(crate) fn joined_lists(
     alloc: Global,
     exprs: &[&Expr],
-    rows: &[&[Value]],
-    columns: &[&[Value]],
+    extended: &ExtendedRows,
 ) -> Result<Vec<Value>, AnswerFault>
-    ensures gives { Gives (λ cells. laid (length exprs.now) (length rows.now) cells.items) result
-        (lists_of (formulas_seen exprs.now) (beside (rows_seen rows.now) (rows_seen columns.now))) }
-    ensures laid { IfOk result (λ cells. length cells.items ≡ length rows.now * length exprs.now) }
+    ensures gives { Gives (λ cells. laid (length exprs.now) (length extended.now.rows.now) cells.items) result
+        (lists_of (formulas_seen exprs.now) (extended_rows extended.now)) }
+    ensures laid { IfOk result (λ cells. length cells.items ≡ length extended.now.rows.now * length exprs.now) }
 {
     let mut cells = Vec::new(alloc);
     let mut joined = Vec::new(alloc);
-    for (number, row) in rows.iter().enumerate() {
-        fill(&mut joined, row, columns, number)?;
+    for (number, row) in extended.rows.iter().enumerate() {
+        fill(&mut joined, row, extended.columns, number)?;
         push_values(exprs, &joined, &mut cells)?;
     }
     Ok(cells)

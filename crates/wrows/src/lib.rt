@@ -6,18 +6,20 @@
 //! - Promises: nothing is skipped, so a number that is out of range on any row refuses; ties are broken by number.
 //! - How, which no clause says: where few rows are asked for, these alone are found. Items that are all plain columns are read
 //!   behind the sort, of the rows that are asked for. What lies far apart is read some rows at a time before it is copied.
+//!   Where columns stand behind the cells of rows, one row with what stands there lies in memory at a time (`joined_items`).
 //! - Asks: an order for each key.
 //! - Leaves expressions to `wplan` and their values to `weval`, sorting to `wsort`, and groups, windows and whole queries to
 //!   `wplanner`.
 //!
 //! Read `specs/Outcomes.antt`, `specs/Columns.antt`, `specs/Sorting.antt` and `specs/Plain.antt`, then
-//! `specs/Laid.antt` and `specs/Picked.antt`.
+//! `specs/Laid.antt`, `specs/Picked.antt` and `specs/Extended.antt`.
 #![tactic(auto)]
 
 mod batches;
 mod cells;
 mod condition;
 mod copied;
+mod extended;
 mod fault;
 mod first_rows;
 mod items;

@@ -1,10 +1,12 @@
 //! The values of expressions on each row, with plain columns read where they lie.
 ghost use Rattle.std.specs.Prelude.{◌≡◌, ◌*◌, IfOk, length};
 ghost use Rattle.wrows.specs.Outcomes.{Gives};
-ghost use Rattle.wrows.specs.Columns.{beside, lists_of};
+ghost use Rattle.wrows.specs.Columns.{lists_of};
+ghost use Rattle.wrows.specs.Extended.{extended_rows};
 ghost use Rattle.wsort.specs.LaidRows.{laid};
 ghost use Rattle.wrows.specs.Laid.{formulas_seen, rows_seen};
 
+use crate::extended::ExtendedRows;
 use crate::fault::AnswerFault;
 use crate::joined::joined_lists;
 use crate::place_values::{picked_lists, places_of};
@@ -17,17 +19,16 @@ use wvalues::Value;
 pub(crate) fn evaluated_lists(
     alloc: Global,
     exprs: &[&Expr],
-    rows: &[&[Value]],
-    columns: &[&[Value]],
+    extended: &ExtendedRows,
 ) -> Result<Vec<Value>, AnswerFault>
-    ensures gives { Gives (λ cells. laid (length exprs.now) (length rows.now) cells.items) result
-        (lists_of (formulas_seen exprs.now) (beside (rows_seen rows.now) (rows_seen columns.now))) }
-    ensures laid { IfOk result (λ cells. length cells.items ≡ length rows.now * length exprs.now) }
+    ensures gives { Gives (λ cells. laid (length exprs.now) (length extended.now.rows.now) cells.items) result
+        (lists_of (formulas_seen exprs.now) (extended_rows extended.now)) }
+    ensures laid { IfOk result (λ cells. length cells.items ≡ length extended.now.rows.now * length exprs.now) }
 {
-    if columns.is_empty() {
-        row_lists(alloc, exprs, rows)
+    if extended.columns.is_empty() {
+        row_lists(alloc, exprs, extended.rows)
     } else {
-        joined_lists(alloc, exprs, rows, columns)
+        joined_lists(alloc, exprs, extended)
     }
 }
 
@@ -36,19 +37,17 @@ pub(crate) fn evaluated_lists(
 pub(crate) fn evaluated_beside(
     alloc: Global,
     exprs: &[&Expr],
-    rows: &[&[Value]],
-    columns: &[&[Value]],
+    extended: &ExtendedRows,
 ) -> Result<Vec<Value>, AnswerFault>
-    ensures gives { Gives (λ cells. laid (length exprs.now) (length rows.now) cells.items) result
-        (lists_of (formulas_seen exprs.now) (beside (rows_seen rows.now) (rows_seen columns.now))) }
-    ensures laid { IfOk result (λ cells. length cells.items ≡ length rows.now * length exprs.now) }
+    ensures gives { Gives (λ cells. laid (length exprs.now) (length extended.now.rows.now) cells.items) result
+        (lists_of (formulas_seen exprs.now) (extended_rows extended.now)) }
+    ensures laid { IfOk result (λ cells. length cells.items ≡ length extended.now.rows.now * length exprs.now) }
 {
     let plain = places_of(alloc, exprs)?;
     let Some(places) = plain else {
-        return evaluated_lists(alloc, exprs, rows, columns);
+        return evaluated_lists(alloc, exprs, extended);
     };
-    let null = Value::Null;
-    let cells = picked_lists(alloc, &places, rows, columns, &null)?;
+    let cells = picked_lists(alloc, &places, extended)?;
     Ok(cells)
 }
 
@@ -60,5 +59,11 @@ pub fn lists(alloc: Global, exprs: &[&Expr], rows: &[&[Value]]) -> Result<Vec<Va
         (lists_of (formulas_seen exprs.now) (rows_seen rows.now)) }
     ensures laid { IfOk result (λ cells. length cells.items ≡ length rows.now * length exprs.now) }
 {
-    evaluated_beside(alloc, exprs, rows, &[])
+    let null = Value::Null;
+    let extended = ExtendedRows {
+        rows,
+        columns: &[],
+        null: &null,
+    };
+    evaluated_beside(alloc, exprs, &extended)
 }

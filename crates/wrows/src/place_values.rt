@@ -6,12 +6,14 @@ ghost use Rattle.wvalues.specs.Meaning.{meaning, Null};
 ghost use Rattle.wframe.specs.Peers.{key_at};
 ghost use Rattle.wplan.specs.declared.expr.Expr.{out-Expr};
 ghost use Rattle.wplan.specs.Formula.{At, formula};
-ghost use Rattle.wrows.specs.Columns.{beside, lists_of, value_at};
+ghost use Rattle.wrows.specs.Columns.{lists_of, value_at};
+ghost use Rattle.wrows.specs.Extended.{extended_rows};
 ghost use Rattle.wsort.specs.LaidRows.{laid};
 ghost use Rattle.wrows.specs.Laid.{formulas_seen, rows_seen};
-ghost use Rattle.wrows.specs.Picked.{row_beside, with_columns};
+ghost use Rattle.wrows.specs.Picked.{with_columns};
 ghost use Rattle.wrows.specs.PlainColumns.{is_plain, plain_place};
 
+use crate::extended::ExtendedRows;
 use std::alloc::{AllocError, Global};
 use wcolumns::value_or_null;
 use wplan::Expr;
@@ -81,36 +83,19 @@ pub(crate) fn value_of<'a>(
     }
 }
 
-/// A row's value at a place: of its own cells, or behind them of what the columns have for it. It is null where there
-/// is none.
-pub(crate) fn value_beside<'a>(
-    rows: &[&'a [Value]],
-    columns: &[&'a [Value]],
-    null: &'a Value,
-    row: usize,
-    place: usize,
-) -> &'a Value
-    requires { meaning null.now ≡ Null }
-    ensures { meaning result.now ≡ value_at (row_beside (rows_seen rows.now) (rows_seen columns.now) row) place }
-{
-    value_of(cells_at(rows, row), columns, null, row, place)
-}
-
 /// Appends the values at some places of a row that has these cells.
 pub(crate) fn push_picked(
     own: &[Value],
-    columns: &[&[Value]],
-    null: &Value,
+    extended: &ExtendedRows,
     places: &[usize],
     row: usize,
     cells: &mut Vec<Value>,
 ) -> Result<(), AllocError>
-    requires { meaning null.now ≡ Null }
     ensures { OnOk result (map meaning cells.new.items ≡ map meaning cells.old.items ++ map
-        (value_at (with_columns (map meaning own.now) (rows_seen columns.now) row)) places.now) }
+        (value_at (with_columns (map meaning own.now) (rows_seen extended.now.columns.now) row)) places.now) }
 {
     for place in places {
-        cells.push(value_of(own, columns, null, row, *place).duplicate()?)?;
+        cells.push(value_of(own, extended.columns, extended.null, row, *place).duplicate()?)?;
     }
     Ok(())
 }
@@ -119,18 +104,22 @@ pub(crate) fn push_picked(
 pub(crate) fn picked_lists(
     alloc: Global,
     places: &[usize],
-    rows: &[&[Value]],
-    columns: &[&[Value]],
-    null: &Value,
+    extended: &ExtendedRows,
 ) -> Result<Vec<Value>, AllocError>
-    requires { meaning null.now ≡ Null }
-    ensures gives { IfOk result (λ cells. lists_of (map At places.now) (beside (rows_seen rows.now) (rows_seen columns.now))
-        ≡ Ok (laid (length places.now) (length rows.now) cells.items)) }
-    ensures laid { IfOk result (λ cells. length cells.items ≡ length rows.now * length places.now) }
+    ensures gives { IfOk result (λ cells. lists_of (map At places.now) (extended_rows extended.now)
+        ≡ Ok (laid (length places.now) (length extended.now.rows.now) cells.items)) }
+    ensures laid { IfOk result (λ cells. length cells.items ≡ length extended.now.rows.now * length places.now) }
 {
-    let mut cells = Vec::with_capacity(alloc, rows.len().saturating_mul(places.len()))?;
-    for row in 0..rows.len() {
-        push_picked(cells_at(rows, row), columns, null, places, row, &mut cells)?;
+    let count = extended.rows.len();
+    let mut cells = Vec::with_capacity(alloc, count.saturating_mul(places.len()))?;
+    for row in 0..count {
+        push_picked(
+            cells_at(extended.rows, row),
+            extended,
+            places,
+            row,
+            &mut cells,
+        )?;
     }
     Ok(cells)
 }

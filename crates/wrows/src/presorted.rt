@@ -3,13 +3,15 @@ ghost use Rattle.std.specs.Prelude.{◌≡◌, ◌<◌, ℕ, All, IfOk, List, Ok
 ghost use Rattle.wvalues.specs.declared.key.SortKey.{SortKey};
 ghost use Rattle.wplan.specs.Formula.{At, Formula};
 ghost use Rattle.wrows.specs.Columns.{beside};
+ghost use Rattle.wrows.specs.Extended.{extended_rows};
 ghost use Rattle.wrows.specs.Laid.{formulas_seen, rows_in, rows_seen};
 ghost use Rattle.wrows.specs.Outcomes.{Gives};
 ghost use Rattle.wrows.specs.Picked.{items_at, numbers_of};
-ghost use Rattle.wrows.specs.Plain.{ordered_of};
+ghost use Rattle.wrows.specs.Plain.{cut, ordered_of};
 
 use crate::cells::{Cells, gathered};
 use crate::copied::picked_rows;
+use crate::extended::ExtendedRows;
 use crate::fault::AnswerFault;
 use crate::items::{Asked, cut_numbers};
 use crate::listing::evaluated_lists;
@@ -23,16 +25,15 @@ fn evaluated_at(
     alloc: Global,
     items: &[&Expr],
     numbers: &[u32],
-    rows: &[&[Value]],
-    columns: &[&[Value]],
+    extended: &ExtendedRows,
 ) -> Result<Cells, AnswerFault>
-    requires { All (λ i. i < length rows.now) numbers.now }
+    requires { All (λ i. i < length extended.now.rows.now) numbers.now }
     ensures width { IfOk result (λ cells. cells.width ≡ length items.now) }
     ensures rows { Gives rows_in result (items_at (formulas_seen items.now) numbers.now
-        (beside (rows_seen rows.now) (rows_seen columns.now))) }
+        (extended_rows extended.now)) }
 {
-    let lists = evaluated_lists(alloc, items, rows, columns)?;
-    let cells = gathered(alloc, &lists, items.len(), rows.len(), numbers)?;
+    let lists = evaluated_lists(alloc, items, extended)?;
+    let cells = gathered(alloc, &lists, items.len(), extended.rows.len(), numbers)?;
     Ok(Cells {
         cells,
         width: items.len(),
@@ -45,16 +46,14 @@ fn plain_at(
     alloc: Global,
     places: &[usize],
     numbers: &[u32],
-    rows: &[&[Value]],
-    columns: &[&[Value]],
+    extended: &ExtendedRows,
 ) -> Result<Cells, AllocError>
-    requires { All (λ i. i < length rows.now) numbers.now }
+    requires { All (λ i. i < length extended.now.rows.now) numbers.now }
     ensures width { IfOk result (λ cells. cells.width ≡ length places.now) }
     ensures rows { IfOk result (λ cells. items_at (map At places.now) numbers.now
-        (beside (rows_seen rows.now) (rows_seen columns.now)) ≡ Ok (rows_in cells)) }
+        (extended_rows extended.now) ≡ Ok (rows_in cells)) }
 {
-    let null = Value::Null;
-    let cells = picked_rows(alloc, rows, columns, &null, places, numbers)?;
+    let cells = picked_rows(alloc, extended, places, numbers)?;
     Ok(Cells {
         cells,
         width: places.len(),
@@ -67,25 +66,25 @@ pub(crate) fn items_at(
     alloc: Global,
     items: &[&Expr],
     numbers: &[u32],
-    rows: &[&[Value]],
-    columns: &[&[Value]],
+    extended: &ExtendedRows,
 ) -> Result<Cells, AnswerFault>
-    requires { All (λ i. i < length rows.now) numbers.now }
+    requires { All (λ i. i < length extended.now.rows.now) numbers.now }
     ensures width { IfOk result (λ cells. cells.width ≡ length items.now) }
     ensures rows { Gives rows_in result (items_at (formulas_seen items.now) numbers.now
-        (beside (rows_seen rows.now) (rows_seen columns.now))) }
+        (extended_rows extended.now)) }
 {
     let plain = places_of(alloc, items)?;
     let Some(places) = plain else {
-        return evaluated_at(alloc, items, numbers, rows, columns);
+        return evaluated_at(alloc, items, numbers, extended);
     };
-    let cells = plain_at(alloc, &places, numbers, rows, columns)?;
+    let cells = plain_at(alloc, &places, numbers, extended)?;
     Ok(cells)
 }
 
-/// The items of the rows that are asked for, where all rows are presorted, by their numbers: nothing is sorted, and no key is
-/// evaluated. Behind each row's cells stand the values of some columns. All items are evaluated on every row, asked for or not;
-/// where all are plain columns, which cannot be out of range, they are read of the rows that are asked for alone.
+/// The items of the rows that are asked for, of those of some numbers, whatever order these tell: nothing is sorted, and no key is
+/// evaluated. Where the numbers are those of all rows in the order of keys, these are the items of the rows in that order. Behind each
+/// row's cells stand the values of some columns. All items are evaluated on every row, asked for or not; where all are plain columns,
+/// which cannot be out of range, they are read of the rows that are asked for alone.
 pub fn presorted_items(
     alloc: Global,
     items: &[&Expr],
@@ -96,11 +95,19 @@ pub fn presorted_items(
 ) -> Result<Cells, AnswerFault>
     requires { All (λ i. i < length rows.now) numbers.items }
     ensures width { IfOk result (λ cells. cells.width ≡ length items.now) }
+    ensures items { Gives rows_in result (items_at (formulas_seen items.now) (cut asked.offset asked.limit numbers.items)
+        (beside (rows_seen rows.now) (rows_seen columns.now))) }
     ensures rows { (keys : List Formula) (order : List SortKey)
         → numbers_of keys order (beside (rows_seen rows.now) (rows_seen columns.now)) ≡ Ok numbers.items
         → Gives rows_in result (ordered_of (formulas_seen items.now) keys order asked.offset asked.limit
         (beside (rows_seen rows.now) (rows_seen columns.now))) }
 {
     let taken = cut_numbers(alloc, numbers, asked)?;
-    items_at(alloc, items, &taken, rows, columns)
+    let null = Value::Null;
+    let extended = ExtendedRows {
+        rows,
+        columns,
+        null: &null,
+    };
+    items_at(alloc, items, &taken, &extended)
 }

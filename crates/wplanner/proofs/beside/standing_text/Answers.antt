@@ -14,8 +14,8 @@ use Rattle.wplanner.proofs.beside.standing_text.Goals as goal
 
 pub returns : goal.returns
 returns c =
-    let select = c.args.select.now in
-    let ps = c.args.places.now in
+    let select = c.args.placed.now.select.now in
+    let ps = c.args.placed.now.places.now in
     let rows = rows_seen c.args.rows.now in
     let columns = columns_seen c.args.columns.now in
     let from = c.asked_for-from.result.0 in

@@ -16,9 +16,9 @@ use Rattle.wplanner.proofs.beside.text_beside.Goals as goal
 
 pub returns-in-None : goal.returns-in-None
 returns-in-None c =
-    let select = c.args.select.now in
+    let select = c.args.placed.now.select.now in
     let s = select_plan select in
-    let ps = c.args.places.now in
+    let ps = c.args.placed.now.places.now in
     let rows = rows_seen c.args.rows.now in
     let columns = columns_seen c.args.columns.now in
     IfOk-weaker c.standing_text.result (λ (bytes : Vec ℕ Global). bytes.items ≡ table_text (map (λ o. o.name) s.items)
@@ -28,9 +28,9 @@ returns-in-None c =
 
 pub returns-in-Some : goal.returns-in-Some
 returns-in-Some c =
-    let select = c.args.select.now in
+    let select = c.args.placed.now.select.now in
     let s = select_plan select in
-    let ps = c.args.places.now in
+    let ps = c.args.placed.now.places.now in
     let rows = rows_seen c.args.rows.now in
     let columns = columns_seen c.args.columns.now in
     let presorted = some_presorted (λ (numbers : Vec ℕ Global). by_keys s.keys columns rows ≡ Ok numbers.items)

@@ -10,7 +10,7 @@ use Rattle.wplanner.proofs.lent.all_text.Goals as goal
 pub referenced_text-requires-clause-order : goal.referenced_text-requires-clause-order
 referenced_text-requires-clause-order c =
     let segments = live_rows c.args.set.now in
-    let plans = map key_plan c.args.select.now.keys.items in
+    let plans = map key_plan c.args.placed.now.select.now.keys.items in
     let ordered = some_presorted (λ (refs : Vec RowRef Global). (columns : List (List Meaning))
     → IsOrderFor segments (by_keys plans columns) refs.items) c.args.orders.now.keys c.in-Some.refs c.in-Some.is
     c.requires.orders.keys in

@@ -5,5 +5,5 @@ use Rattle.wplanner.proofs.lent.presorted_text.Goals as goal
 
 pub rows_text-requires-clause-presorted : goal.rows_text-requires-clause-presorted
 rows_text-requires-clause-presorted c =
-    c.in_ok-presorted.ensures.orders (optional_formula c.args.select.now.condition) (live_rows c.args.set.now)
-    (map key_plan c.args.select.now.keys.items) c.in_ok-kept.ensures.numbered c.requires.orders
+    c.in_ok-presorted.ensures.orders (optional_formula c.args.placed.now.select.now.condition) (live_rows c.args.set.now)
+    (map key_plan c.args.placed.now.select.now.keys.items) c.in_ok-kept.ensures.numbered c.requires.orders

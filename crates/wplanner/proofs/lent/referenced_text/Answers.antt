@@ -17,9 +17,9 @@ use Rattle.wplanner.proofs.lent.referenced_text.Goals as goal
 pub returns-in_err-rows : goal.returns-in_err-rows
 returns-in_err-rows c =
     let p = err_from_is_err_and c.from_residual.result c.from_residual.ensures.1 in
-    let s = select_plan c.args.select.now in
+    let s = select_plan c.args.placed.now.select.now in
     let fault = c.in_err-rows.field-0.0 in
-    let fails = referenced_fails s c.args.places.now c.requires.reads c.requires.sound c.requires.unwindowed c.requires.all
+    let fails = referenced_fails s c.args.placed.now.places.now c.requires.reads c.requires.sound c.requires.unwindowed c.requires.all
     (live_rows c.args.set.now) c.args.refs.now c.requires.order (λ (rows : Vec (Bor (List Value)) Global). rows_seen
     rows.items) (λ (bytes : Vec ℕ Global). bytes.items) fault c.in_err-rows.ensures in
     rw (p.1, p.2) (subst (λ rows. Gives (λ (bytes : Vec ℕ Global). bytes.items) (Err fault) (text_in s (select_of s rows)))
@@ -27,9 +27,9 @@ returns-in_err-rows c =
 
 pub returns : goal.returns
 returns c =
-    let select = c.args.select.now in
+    let select = c.args.placed.now.select.now in
     let s = select_plan select in
-    let ps = c.args.places.now in
+    let ps = c.args.placed.now.places.now in
     let printed = c.in_ok-bytes.ensures ∙ ap (λ l. table_text (map (λ o. o.name) s.items)
     (map (values_at ps) (cut select.offset select.limit (beside (rows_seen l) [])))) c.deref.ensures.value in
     ap (λ rows. text_in s (select_of s rows)) (sym (live_joined c.args.set.now))

@@ -6,8 +6,8 @@ use Rattle.wprinted.proofs.batch.push_batch.Goals as goal
 
 pub returns : goal.returns
 returns g c =
-    let all = g.R.Rows.rows c.args.rows.now in
-    let values = values_at c.args.places.now in
+    let all = g.R.Rows.rows c.args.printed.now.rows.now in
+    let values = values_at c.args.printed.now.places.now in
     let written = c.write_lines-written in
     let from = c.args.batch.from in
     let end = c.args.batch.end in

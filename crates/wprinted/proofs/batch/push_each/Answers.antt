@@ -7,8 +7,8 @@ use Rattle.wprinted.proofs.batch.push_each.Goals as goal
 
 pub loop-row-preserved : goal.loop-row-preserved
 loop-row-preserved g c =
-    let all = g.R.Rows.rows c.args.rows.now in
-    let values = values_at c.args.places.now in
+    let all = g.R.Rows.rows c.args.printed.now.rows.now in
+    let values = values_at c.args.printed.now.places.now in
     let row = c.loop-row.row in
     let within : row < length all = omega (arith, c.loop-row-test.true, c.requires.within) in
     lines-more (map values all) c.args.batch.from row (values (values_of c.row.result)) c.args.bytes.now.items

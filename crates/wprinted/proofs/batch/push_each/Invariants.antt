@@ -4,4 +4,4 @@ use Rattle.wprinted.proofs.batch.push_each.Given as goal
 
 abbrev pub invariant-loop-row : goal.invariant-loop-row
 invariant-loop-row g l = l.bytes.items ≡ l.fn.bytes.items
-    ++ lines_text (rows_between l.fn.batch.from l.row (map (values_at l.places) (g.R.Rows.rows l.rows)))
+    ++ lines_text (rows_between l.fn.batch.from l.row (map (values_at l.printed.places.now) (g.R.Rows.rows l.printed.rows.now)))

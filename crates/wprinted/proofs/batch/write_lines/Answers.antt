@@ -7,8 +7,8 @@ use Rattle.wprinted.proofs.batch.write_lines.Goals as goal
 
 pub loop-row-preserved : goal.loop-row-preserved
 loop-row-preserved g c =
-    let all = g.R.Rows.rows c.args.rows.now in
-    let values = values_at c.args.places.now in
+    let all = g.R.Rows.rows c.args.printed.now.rows.now in
+    let values = values_at c.args.printed.now.places.now in
     let row = c.loop-row.row in
     let inv = c.loop-row.invariant in
     let some : 0 < row = omega (arith, c.loop-row-test.true) in

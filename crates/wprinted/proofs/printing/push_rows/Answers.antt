@@ -6,8 +6,8 @@ use Rattle.wprinted.proofs.printing.push_rows.Goals as goal
 
 pub loop-row-preserved : goal.loop-row-preserved
 loop-row-preserved g c =
-    let all = g.R.Rows.rows c.args.rows.now in
-    let values = values_at c.args.places.now in
+    let all = g.R.Rows.rows c.args.printed.now.rows.now in
+    let values = values_at c.args.printed.now.places.now in
     let row = c.loop-row.row in
     let end = c.min-end.result in
     let rises : row ≤ end = omega (arith, c.loop-row-test.true, c.min-end.ensures, c.saturating_add.ensures) in

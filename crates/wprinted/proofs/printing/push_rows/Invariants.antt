@@ -4,7 +4,8 @@ use Rattle.wprinted.proofs.printing.push_rows.Given as goal
 
 abbrev pub invariant-loop-row : goal.invariant-loop-row
 invariant-loop-row g l = record {
-  written : l.bytes.items ≡ l.fn.bytes.items ++ lines_text (rows_between 0 l.row (map (values_at l.places) (g.R.Rows.rows l.rows)));
+  written : l.bytes.items ≡ l.fn.bytes.items
+      ++ lines_text (rows_between 0 l.row (map (values_at l.printed.places.now) (g.R.Rows.rows l.printed.rows.now)));
   within : l.row ≤ l.count;
 }
 

@@ -12,8 +12,8 @@ pub returns-clause-rows : goal.returns-clause-rows
 returns-clause-rows c =
     let places = c.args.places.now in
     let numbers = c.args.numbers.now in
-    let rows = rows_seen c.args.rows.now in
-    let columns = rows_seen c.args.columns.now in
+    let rows = rows_seen c.args.extended.now.rows.now in
+    let columns = rows_seen c.args.extended.now.columns.now in
     let listed = c.in_ok-push_rows.ensures
     ∙ ap (λ cells. map meaning cells ++ flat_map (picked places rows columns) numbers) c.in_ok-cells.ensures.items in
     laid_rows (length places) (picked places rows columns) numbers (picked_wide places rows columns numbers)
@@ -23,8 +23,8 @@ pub returns-clause-laid : goal.returns-clause-laid
 returns-clause-laid c =
     let places = c.args.places.now in
     let numbers = c.args.numbers.now in
-    let rows = rows_seen c.args.rows.now in
-    let columns = rows_seen c.args.columns.now in
+    let rows = rows_seen c.args.extended.now.rows.now in
+    let columns = rows_seen c.args.extended.now.columns.now in
     let listed = c.in_ok-push_rows.ensures
     ∙ ap (λ cells. map meaning cells ++ flat_map (picked places rows columns) numbers) c.in_ok-cells.ensures.items in
     sym (length-map c.push_rows.new.cells.items meaning) ∙ ap length listed

@@ -6,12 +6,12 @@ use Rattle.wrows.specs.Picked.{is_text, row_beside, with_columns}
 use Rattle.wrows.proofs.PickFacts.{none_of_row}
 use Rattle.wrows.proofs.copied.push_batch.Goals as goal
 
-pub push_without_texts-requires-clause-none : goal.push_without_texts-requires-clause-none
-push_without_texts-requires-clause-none c =
+pub push_without_texts-requires : goal.push_without_texts-requires
+push_without_texts-requires c =
     let places = c.args.places.now in
     let numbers = c.args.numbers.now in
     let k = c.loop-number.number-index in
-    let columns = rows_seen c.args.columns.now in
+    let columns = rows_seen c.args.extended.now.columns.now in
     ap (λ own. list_any (λ place. is_text (value_at (with_columns own columns (get_or numbers k 0)) place)) places) c.cells_at-own.ensures
-    ∙ none_of_row (λ place i. is_text (value_at (row_beside (rows_seen c.args.rows.now) columns i) place)) places numbers k
+    ∙ none_of_row (λ place i. is_text (value_at (row_beside (rows_seen c.args.extended.now.rows.now) columns i) place)) places numbers k
     (omega arith) (sym c.have_texts-some_text.ensures ∙ c.if-some_text.false)

@@ -1,10 +1,9 @@
 use Rattle.std.proofs.Common.{◌≡◌, ◌++◌, map, take}
 use Rattle.std.specs.List.{flat_map}
 use Rattle.wvalues.specs.Meaning.{meaning}
-use Rattle.wrows.specs.Laid.{rows_seen}
-use Rattle.wrows.specs.Picked.{picked}
+use Rattle.wrows.specs.Extended.{picked_of}
 use Rattle.wrows.proofs.copied.push_batch.Given as goal
 
 abbrev pub invariant-loop-number : goal.invariant-loop-number
 invariant-loop-number l = map meaning l.cells.items ≡ map meaning l.fn.cells.items ++ flat_map
-    (picked l.places (rows_seen l.rows) (rows_seen l.columns)) (take l.number-index l.numbers)
+    (picked_of l.places l.extended) (take l.number-index l.numbers)

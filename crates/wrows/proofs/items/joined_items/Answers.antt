@@ -11,16 +11,16 @@ use Rattle.wrows.proofs.items.joined_items.Goals as goal
 pub returns-then-asks_for_all-clause-rows : goal.returns-then-asks_for_all-clause-rows
 returns-then-asks_for_all-clause-rows c =
     let P : Result (List Row) AnswerFault → Type 0 = λ meant. Gives rows_in c.all_items.result meant in
-    subst P (as_they_stand (formulas_seen c.args.items.now) (formulas_seen c.args.keys.now) c.args.order.now
+    subst P (as_they_stand (formulas_seen c.args.items.now) (formulas_seen c.args.key_exprs.now) c.args.keys.now
     c.args.asked.offset c.args.asked.limit (beside (rows_seen c.args.rows.now) (rows_seen c.args.columns.now))
-    (length-map c.args.keys.now formula_seen ∙ c.requires) (c.asks_for_all.ensures.keys c.if-asks_for_all.true)
+    (length-map c.args.key_exprs.now formula_seen ∙ c.requires) (c.asks_for_all.ensures.keys c.if-asks_for_all.true)
     (c.asks_for_all.ensures.offset c.if-asks_for_all.true) (c.asks_for_all.ensures.limit c.if-asks_for_all.true))
     c.all_items.ensures.rows
 
 pub returns-clause-rows : goal.returns-clause-rows
 returns-clause-rows c =
     let P : Result (List Row) AnswerFault → Type 0 = λ meant. Gives rows_in c.items_at.result meant in
-    subst P (asked_is (formulas_seen c.args.items.now) (formulas_seen c.args.keys.now) c.args.order.now c.args.asked.offset
+    subst P (asked_is (formulas_seen c.args.items.now) (formulas_seen c.args.key_exprs.now) c.args.keys.now c.args.asked.offset
     c.args.asked.limit (beside (rows_seen c.args.rows.now) (rows_seen c.args.columns.now)) c.deref.result.now
     (c.in_ok-numbers.ensures.gives ∙ ap Ok (sym c.deref.ensures.value)))
     c.items_at.ensures.rows

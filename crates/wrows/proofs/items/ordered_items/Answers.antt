@@ -9,5 +9,5 @@ use Rattle.wrows.proofs.items.ordered_items.Goals as goal
 pub returns-clause-rows : goal.returns-clause-rows
 returns-clause-rows c =
     let P : List Row → Type 0 = λ all. Gives rows_in c.joined_items.result (ordered_of (formulas_seen c.args.items.now)
-    (formulas_seen c.args.keys.now) c.args.order.now c.args.asked.offset c.args.asked.limit all) in
+    (formulas_seen c.args.key_exprs.now) c.args.keys.now c.args.asked.offset c.args.asked.limit all) in
     subst P (beside_none (rows_seen c.args.rows.now)) c.joined_items.ensures.rows

@@ -7,4 +7,4 @@ use Rattle.wrows.proofs.place_values.push_picked.Given as goal
 
 abbrev pub invariant-loop-place : goal.invariant-loop-place
 invariant-loop-place l = map meaning l.cells.items ≡ map meaning l.fn.cells.items ++ map
-    (value_at (with_columns (map meaning l.own) (rows_seen l.columns) l.row)) (take l.place-index l.places)
+    (value_at (with_columns (map meaning l.own) (rows_seen l.extended.columns.now) l.row)) (take l.place-index l.places)
