@@ -11,3 +11,4 @@ pub mod PutFacts
 pub mod CopyFacts
 pub mod NextBatch
 pub mod SummaryFacts
+pub mod AlikeFacts

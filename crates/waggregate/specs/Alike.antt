@@ -32,11 +32,16 @@ abbrev pub functions_alike : ℕ → List GroupCall → List AggregateFunction
 functions_alike place [] = []
 functions_alike place (call ∷ calls) = and_alike place call (functions_alike place calls)
 
+-- the extremes that are asked for, none where no aggregate is found
+abbrev pub asked_so_far : Option Extremes → Extremes
+asked_so_far None = no_extremes
+asked_so_far (Some extremes) = extremes
+
 -- the extremes that some aggregates ask for, beside others
 abbrev pub all_asked : Extremes → List AggregateFunction → Extremes
 all_asked extremes functions = fold with_asked extremes functions
 
--- the extremes that the calls which are fed alike ask for, if there are such calls
+-- the extremes that the calls which are fed alike ask for, up to the first that reads another, if there are such calls
 abbrev pub extremes_alike : ℕ → List GroupCall → Option Extremes
 extremes_alike place calls =
     if nat_lt 0 (length (functions_alike place calls)) then Some (all_asked no_extremes (functions_alike place calls)) else None

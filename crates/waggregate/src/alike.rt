@@ -1,10 +1,11 @@
 //! Which calls are fed alike.
 ghost use Rattle.std.specs.Prelude.{◌≡◌};
-ghost use Rattle.waggregate.specs.Alike.{extremes_alike, is_fed_by};
+ghost use Rattle.waggregate.specs.Alike.{asked_so_far, extremes_alike, is_fed_by};
+ghost use Rattle.waggregate.specs.Summaries.{with_asked};
 
 use crate::feeding::is_null;
 use crate::summaries::Extremes;
-use wplan::{Aggregate, GroupCall};
+use wplan::{Aggregate, AggregateFunction, GroupCall};
 use wrows::place_of;
 
 // Whether an aggregate reads the column of a place, or none.
@@ -17,13 +18,24 @@ fn is_read_by(aggregate: &Aggregate, place: usize) -> bool
     }
 }
 
+// The extremes that some aggregates ask for, if there are any, and those that another one does.
+fn with_asked(found: Option<Extremes>, function: AggregateFunction) -> Extremes
+    ensures { result ≡ with_asked (asked_so_far found) function }
+{
+    let extremes = match found {
+        None => Extremes::none(),
+        Some(extremes) => extremes,
+    };
+    extremes.with(function)
+}
+
 /// The extremes that those of the calls ask for which are fed alike: the aggregates without FILTER that read the column of a place,
 /// or none, up to the first one that reads another. None where no call is fed so.
+#[tactic(auto, using(crate::proofs::AlikeFacts::asked_from))]
 pub fn extremes_of(calls: &[GroupCall], place: usize) -> Option<Extremes>
     ensures { result ≡ extremes_alike place calls.now }
 {
-    let mut extremes = Extremes::none();
-    let mut alike: usize = 0;
+    let mut found: Option<Extremes> = None;
     for call in calls {
         let GroupCall::Aggregated(aggregate) = call else {
             continue;
@@ -32,9 +44,8 @@ pub fn extremes_of(calls: &[GroupCall], place: usize) -> Option<Extremes>
             break;
         }
         if aggregate.filter.is_none() {
-            extremes = extremes.with(aggregate.function);
-            alike = alike.saturating_add(1);
+            found = Some(with_asked(found, aggregate.function));
         }
     }
-    if alike > 0 { Some(extremes) } else { None }
+    found
 }

@@ -5,7 +5,7 @@ use Rattle.std.proofs.Common.{set, get_or, nat_lt, refl, sym, ap, subst, ◌∙�
 use Rattle.std.specs.Bool.{one_answer}
 use Rattle.std.specs.Cmp.{first_so, second_so}
 use Rattle.std.specs.Cmp.Lexicographic.{pointwise, pointwise_decides}
-use Rattle.std.specs.Prelude.{IfOk, Some, Result, Ok, Err, nat_le}
+use Rattle.std.specs.Prelude.{◌^◌, IfOk, Some, Result, Ok, Err, min, nat_le, if◌then◌else◌}
 use Rattle.std.specs.Int.Bits.{bit_and}
 use Rattle.std.specs.List.{flat_map, list_any, position, position_or_len}
 use Rattle.std.proofs.Math.Nat.{mul-le-mul_right}
@@ -25,11 +25,11 @@ use Rattle.wrows.specs.Columns.{Row}
 use Rattle.wrows.specs.Laid.{rows_seen}
 use Rattle.wrows.proofs.RowFacts.{laid_length, laid_rows, row_at}
 use Rattle.wgroupby.specs.Sets.{is_among}
-use Rattle.wgroup.specs.declared.keyed.Keyed.{Keyed}
-use Rattle.wgroup.specs.declared.group_slots.Table.{Table}
+use Rattle.wgroup.specs.declared.keyed.GroupingRows.{GroupingRows}
+use Rattle.wgroup.specs.declared.group_slots.GroupTable.{GroupTable}
 use Rattle.wgroup.specs.Grouping.{SetColumns, group_key}
 use Rattle.wgroup.specs.Sight.{first_of, key_in}
-use Rattle.wgroup.specs.Table.{AreMet, HasKeys, Holds, alike, hash_of_key, is_of_group, key_hash, looked_at, slot_of}
+use Rattle.wgroup.specs.Table.{AreMet, HasKeys, Holds, alike, hash_of_key, is_of_group, key_hash, looked_at, looks_after, slot_of}
 use Rattle.wgroup.proofs.GroupFacts.{group_keys_wide}
 use Rattle.wgroup.proofs.LeaderFacts.{in_order}
 use Rattle.wgroup.proofs.NumberFacts.{are_equal}
@@ -112,7 +112,7 @@ stays_near slots first k x g d h = go (in_order k first)
     go (inr (inr l)) = from (omega (arith, l))
 
 -- the keys of the groups, one behind the other
-module _ (keyed : Keyed) (firsts : List ℕ) (keys : List Value) (has : HasKeys keyed firsts keys) where
+module _ (keyed : GroupingRows) (firsts : List ℕ) (keys : List Value) (has : HasKeys keyed firsts keys) where
   abbrev columns : SetColumns
   columns = keyed.columns.now
 
@@ -163,7 +163,7 @@ module _ (keyed : Keyed) (firsts : List ℕ) (keys : List Value) (has : HasKeys 
       ∙ ap (λ l. flat_map (group_key columns seen) firsts ++ l) (sym (append-nil (group_key columns seen row)))
       ∙ sym (flat_map-append (group_key columns seen) firsts (row ∷ []))
 
-module _ (keyed : Keyed) (firsts slots apart : List ℕ) where
+module _ (keyed : GroupingRows) (firsts slots apart : List ℕ) where
   split : (first g : ℕ) → is_among g (looked_at slots apart first) ≡ (is_among g (take 8 (drop first slots)) || is_among g apart)
   split first g = list_any-append (λ p. p == g) (take 8 (drop first slots)) apart
 
@@ -280,15 +280,36 @@ module _ (keyed : Keyed) (firsts slots apart : List ℕ) where
         go (inr (inr l)) = absurd (let m : g < length firsts + 1 = grown g h in omega (arith, m, l))
 
 -- the number of a group more is put where its key is looked for
-pub record IsPut (keyed : Keyed) (row : ℕ) (table put : Table) : Type 0 where
+pub record IsPut (keyed : GroupingRows) (row : ℕ) (table put : GroupTable) : Type 0 where
   pub firsts : put.firsts.items ≡ table.firsts.items
   pub keys : put.keys.items ≡ table.keys.items
   pub long : length put.slots.items ≡ length table.slots.items
   pub met : AreMet keyed (table.firsts.items ++ row ∷ []) put.slots.items put.apart.items
 
-module _ (keyed : Keyed) (row : ℕ) (table : Table) (held : Holds keyed row table) where
+-- the count of looks
+module _ (keyed : GroupingRows) (row : ℕ) (table : GroupTable) where
+  abbrev is_near : ℕ → Bool
+  is_near first = list_any (is_of_group keyed table.firsts.items row) (take 8 (drop first table.slots.items))
+
+  pub looks_near : (first : ℕ) → is_near first ≡ true → table.looks ≡ looks_after keyed table first row
+  looks_near first e = sym (ap (λ b. if b then table.looks else min (table.looks + length table.apart.items) (2 ^ 64 - 1)) e)
+
+  pub looks_apart : (first : ℕ) → is_near first ≡ false
+      → min (table.looks + length table.apart.items) (2 ^ 64 - 1) ≡ looks_after keyed table first row
+  looks_apart first e = sym (ap (λ b. if b then table.looks else min (table.looks + length table.apart.items) (2 ^ 64 - 1)) e)
+
+  -- where a row is of the group in the first of its slots
+  pub looks_first : (first number : ℕ) (near : List ℕ) → first + 8 ≤ length table.slots.items
+      → near ≡ take 8 (drop first table.slots.items)
+      → is_of_group keyed table.firsts.items row (get_or near 0 number) ≡ true → table.looks ≡ looks_after keyed table first row
+  looks_first first number near wide is e =
+      let some : 0 < length (take 8 (drop first table.slots.items)) = near_wide table.slots.items first 0 (omega arith) wide in
+      looks_near first (list_any_at (is_of_group keyed table.firsts.items row) (take 8 (drop first table.slots.items)) 0 number some
+      (ap (is_of_group keyed table.firsts.items row) (sym (ap (λ l. get_or l 0 number) is)) ∙ e))
+
+module _ (keyed : GroupingRows) (row : ℕ) (table : GroupTable) (held : Holds keyed row table) where
   -- looks are no part of what a table holds
-  pub held_still : (after : Table) → after ≡ record table { looks = after.looks } → Holds keyed row after
+  pub held_still : (after : GroupTable) → after ≡ record table { looks = after.looks } → Holds keyed row after
   held_still after e = subst (Holds keyed row) (sym e) (record { groups = held.groups; keys = held.keys; wide = held.wide; met = held.met })
 
   within : (g : ℕ) → is_of_group keyed table.firsts.items row g ≡ true → g < length (first_of (alike keyed) row)
@@ -305,7 +326,7 @@ module _ (keyed : Keyed) (row : ℕ) (table : Table) (held : Holds keyed row tab
       firsts_known (alike keyed) (agree_equiv keyed.columns.now (rows_seen keyed.rows.now)) row
       (list_any_at (alike keyed row) (first_of (alike keyed) row) g 0 (within g e) (agrees g e))
 
-  pub held_known : (after : Table) (g : ℕ) → after ≡ record table { looks = after.looks }
+  pub held_known : (after : GroupTable) (g : ℕ) → after ≡ record table { looks = after.looks }
       → is_of_group keyed table.firsts.items row g ≡ true → Holds keyed (row + 1) after
   held_known after g e known = subst (Holds keyed (row + 1)) (sym e) (record {
     groups =
@@ -328,7 +349,7 @@ module _ (keyed : Keyed) (row : ℕ) (table : Table) (held : Holds keyed row tab
         (ap (list_any (alike keyed row)) (sym held.groups) ∙ none)
         ∙ ap (λ l. l ++ row ∷ []) (sym held.groups)
 
-    pub held_new : (after : Table) → after.firsts.items ≡ table.firsts.items ++ row ∷ []
+    pub held_new : (after : GroupTable) → after.firsts.items ≡ table.firsts.items ++ row ∷ []
         → HasKeys keyed (table.firsts.items ++ row ∷ []) after.keys.items → length after.slots.items ≡ length table.slots.items
         → AreMet keyed (table.firsts.items ++ row ∷ []) after.slots.items after.apart.items → Holds keyed (row + 1) after
     held_new after f k l m =

@@ -10,7 +10,7 @@ ghost use Rattle.wgroup.specs.Grouping.{group_key, set_value};
 ghost use Rattle.wgroup.specs.Sight.{key_in};
 ghost use Rattle.wgroup.specs.Table.{hash_of_key, key_hash, key_input};
 
-use crate::keyed::Keyed;
+use crate::keyed::GroupingRows;
 use std::hash::{FoldHasher, Hash, Hasher};
 use wrows::cells_at;
 use wvalues::Value;
@@ -58,7 +58,7 @@ fn is_key_of(columns: &[Option<usize>], row: &[Value], key: &[Value], null: &Val
 
 /// Whether a row's key is this one.
 #[inline(always)]
-pub(crate) fn has_key(keyed: &Keyed, row: usize, key: &[Value]) -> bool
+pub(crate) fn has_key(keyed: &GroupingRows, row: usize, key: &[Value]) -> bool
     requires { length key.now ≡ length keyed.now.columns.now }
     ensures { result ≡ pointwise same_meaning (group_key keyed.now.columns.now (rows_seen keyed.now.rows.now) row) (map meaning key.now) }
 {
@@ -92,7 +92,7 @@ fn hash_of_key(columns: &[Option<usize>], row: &[Value], null: &Value) -> u64
 
 /// The hash of a row's key.
 #[inline(always)]
-pub(crate) fn key_hash(keyed: &Keyed, row: usize) -> u64
+pub(crate) fn key_hash(keyed: &GroupingRows, row: usize) -> u64
     ensures { result ≡ key_hash keyed.now row }
 {
     hash_of_key(keyed.columns, cells_at(keyed.rows, row), keyed.null)

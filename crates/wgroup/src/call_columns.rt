@@ -228,7 +228,7 @@ fn aggregate_column(
     }
 }
 
-// The least number that is no whole number.
+// `GROUPING` saturates here: the least number beyond the range of `Whole`, 2^95.
 const LIMIT: u128 = 1 << 95;
 
 // The number with one more bit, no further than the limit.

@@ -1,39 +1,41 @@
 //! The row of the group of all rows, where its calls count them and ask nothing else of them.
 ghost use Rattle.std.specs.Prelude.{◌≡◌, ◌∷◌, [], ◌+◌, ◌<◌, ◌^◌, List, IfOk, IsTrue, length, map, pos};
-ghost use Rattle.std.specs.List.{AllByRecursion};
+ghost use Rattle.std.specs.List.{AllByRecursion, list_all};
 ghost use Rattle.wvalues.specs.Meaning.{Int, meaning};
 ghost use Rattle.wplan.specs.Plans.{GroupAggregate, aggregate_plan, group_call_plan, grouping_plan};
 ghost use Rattle.wrows.specs.Columns.{Row};
 ghost use Rattle.wrows.specs.Outcomes.{Gives};
 ghost use Rattle.wrows.specs.Laid.{rows_in};
 ghost use Rattle.wgroupby.specs.Held.{lists_in};
-ghost use Rattle.wgroup.specs.Counting.{CountsRows, row_count};
+ghost use Rattle.wgroup.specs.Counting.{CountsRows, counts_rows, is_counted, is_one_empty, is_row_count, row_count};
 ghost use Rattle.wgroup.specs.Grouping.{group_rows};
 
 use crate::having::rows_held;
 use std::alloc::{AllocError, Global};
-use waggregate::count_value;
-use wplan::{Aggregate, AggregateFunction, Expr, GroupCall, Grouping};
+use waggregate::{count_value, is_null};
+use wplan::{Aggregate, AggregateFunction, GroupCall, Grouping};
 use wrows::{AnswerFault, Cells};
 use wvalues::Value;
 
 // Whether an aggregate is `count(*)` without FILTER.
 #[tactic(auto, unfolding(wplan::specs::Formula::formula))]
 fn is_row_count(aggregate: &Aggregate) -> bool
-    ensures { IsTrue result → GroupAggregate (aggregate_plan aggregate.now) ≡ row_count }
+    ensures exact { result ≡ is_row_count aggregate.now }
+    ensures counts { IsTrue result → GroupAggregate (aggregate_plan aggregate.now) ≡ row_count }
 {
     let AggregateFunction::CountRows = aggregate.function else {
         return false;
     };
-    let Expr::Null = &aggregate.argument else {
+    if !is_null(&aggregate.argument) {
         return false;
-    };
+    }
     aggregate.filter.is_none()
 }
 
 // Whether a call is `count(*)` without FILTER.
 fn counts(call: &GroupCall) -> bool
-    ensures { IsTrue result → group_call_plan call.now ≡ row_count }
+    ensures exact { result ≡ is_counted call.now }
+    ensures counts { IsTrue result → group_call_plan call.now ≡ row_count }
 {
     match call {
         GroupCall::Aggregated(aggregate) => is_row_count(aggregate),
@@ -43,7 +45,8 @@ fn counts(call: &GroupCall) -> bool
 
 // Whether all calls are `count(*)` without FILTER.
 fn all_count(calls: &[GroupCall]) -> bool
-    ensures { IsTrue result → AllByRecursion (λ c. c ≡ row_count) (map group_call_plan calls.now) }
+    ensures exact { result ≡ list_all is_counted calls.now }
+    ensures counts { IsTrue result → AllByRecursion (λ c. c ≡ row_count) (map group_call_plan calls.now) }
 {
     for call in calls {
         if !counts(call) {
@@ -55,7 +58,8 @@ fn all_count(calls: &[GroupCall]) -> bool
 
 // Whether there is one set, the empty one.
 fn is_one_empty(sets: &[Vec<usize>]) -> bool
-    ensures { IsTrue result → lists_in sets.now ≡ [] ∷ [] }
+    ensures exact { result ≡ is_one_empty (lists_in sets.now) }
+    ensures empty { IsTrue result → lists_in sets.now ≡ [] ∷ [] }
 {
     if sets.len() != 1 {
         return false;
@@ -66,7 +70,8 @@ fn is_one_empty(sets: &[Vec<usize>]) -> bool
 /// Whether a grouping counts all rows in one group and asks nothing else of them. HAVING may ask what it likes of the row of
 /// the group.
 pub fn counts_rows(grouping: &Grouping) -> bool
-    ensures { IsTrue result → CountsRows (grouping_plan grouping.now) }
+    ensures exact { result ≡ counts_rows grouping.now }
+    ensures counts { IsTrue result → CountsRows (grouping_plan grouping.now) }
 {
     if !grouping.columns.is_empty() {
         return false;

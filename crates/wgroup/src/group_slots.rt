@@ -6,11 +6,11 @@ ghost use Rattle.std.specs.Prelude.{◌≡◌, ◌≤◌, ◌<◌, ◌+◌, ◌*
 ghost use Rattle.std.specs.List.{list_any, position, position_or_len};
 ghost use Rattle.std.specs.Option.{IfNone};
 ghost use Rattle.wgroup.specs.Sight.{first_of};
-ghost use Rattle.wgroup.specs.declared.keyed.Keyed.{Keyed};
-ghost use Rattle.wgroup.specs.Table.{HasKeys, Holds, alike, is_of_group, key_hash, looked_at, slot_of};
+ghost use Rattle.wgroup.specs.declared.keyed.GroupingRows.{GroupingRows};
+ghost use Rattle.wgroup.specs.Table.{HasKeys, Holds, alike, is_of_group, key_hash, looked_at, looks_after, slot_of};
 
 use crate::alike::{has_key, key_hash};
-use crate::keyed::Keyed;
+use crate::keyed::GroupingRows;
 use crate::keys::push_key;
 use std::alloc::{AllocError, Global};
 use wrows::{cells_at, slice_of};
@@ -24,7 +24,7 @@ const EMPTY: u32 = u32::MAX;
 
 /// The groups of the rows that were seen.
 #[derive(Drop)]
-pub(crate) struct Table {
+pub(crate) struct GroupTable {
     /// The number of the first row of each group, in the order of first sight.
     pub(crate) firsts: Vec<u32>,
     /// The key of each group, one behind the other, which lie closer together than the first rows do.
@@ -38,12 +38,12 @@ pub(crate) struct Table {
 }
 
 /// A table without groups, with so many slots for hashes, a power of two.
-pub(crate) fn empty_table(alloc: Global, slots: usize) -> Result<Table, AllocError>
+pub(crate) fn empty_table(alloc: Global, slots: usize) -> Result<GroupTable, AllocError>
     requires some { 1 ≤ slots }
     requires few { slots < 2 ^ 32 }
-    ensures { (keyed : Keyed) → IfOk result (Holds keyed 0) }
+    ensures { (keyed : GroupingRows) → IfOk result (Holds keyed 0) }
 {
-    Ok(Table {
+    Ok(GroupTable {
         firsts: Vec::new(alloc),
         keys: Vec::new(alloc),
         slots: vec![in alloc; EMPTY; slots + (MOST_PROBES - 1)]?,
@@ -52,7 +52,8 @@ pub(crate) fn empty_table(alloc: Global, slots: usize) -> Result<Table, AllocErr
     })
 }
 
-// The slot from which on a key of this hash is looked for.
+// The slot from which on a key of this hash is looked for. The length of the slots less the most probes is the mask `n - 1` of
+// `n` hashes.
 fn slot_of(slots: &[u32], hash: u64) -> usize
     requires { 8 ≤ length slots.now }
     ensures slot { result ≡ slot_of slots.now hash }
@@ -63,7 +64,7 @@ fn slot_of(slots: &[u32], hash: u64) -> usize
 
 // Whether a group has this number, and a row is of that group.
 #[inline(always)]
-fn is_of_group(keyed: &Keyed, table: &Table, number: usize, row: usize) -> bool
+fn is_of_group(keyed: &GroupingRows, table: &GroupTable, number: usize, row: usize) -> bool
     requires { HasKeys keyed.now table.now.firsts.items table.now.keys.items }
     ensures { result ≡ is_of_group keyed.now table.now.firsts.items row number }
 {
@@ -76,9 +77,10 @@ fn is_of_group(keyed: &Keyed, table: &Table, number: usize, row: usize) -> bool
 
 // The group of a row, if its number is among these.
 #[inline(always)]
-fn group_among(keyed: &Keyed, table: &Table, numbers: &[u32], row: usize) -> Option<u32>
+fn group_among(keyed: &GroupingRows, table: &GroupTable, numbers: &[u32], row: usize) -> Option<u32>
     requires { HasKeys keyed.now table.now.firsts.items table.now.keys.items }
     ensures some { IfSome result (λ number. is_of_group keyed.now table.now.firsts.items row number ≡ true) }
+    ensures found { IfSome result (λ number. list_any (is_of_group keyed.now table.now.firsts.items row) numbers.now ≡ true) }
     ensures none { IfNone result (list_any (is_of_group keyed.now table.now.firsts.items row) numbers.now ≡ false) }
 {
     for number in numbers {
@@ -96,11 +98,11 @@ fn free_slot(slots: &[u32], groups: usize) -> Option<usize>
     slots.iter().position(|number| *number as usize >= groups)
 }
 
-impl Table {
+impl GroupTable {
     /// Guesses of the numbers of some rows' groups, from a row on: what stands in the first slot of each. Nothing is done between one
     /// row and the next, so that the processor has many slots on their way from memory at once.
     #[inline(never)]
-    pub(crate) fn guess(&self, keyed: &Keyed, from: usize, guesses: &mut [u32])
+    pub(crate) fn guess(&self, keyed: &GroupingRows, from: usize, guesses: &mut [u32])
         requires { 8 ≤ length self.now.slots.items }
     {
         for step in 0..guesses.len() {
@@ -111,13 +113,14 @@ impl Table {
 
     // The group of a row, of whose key this is the first slot, if it is of one that was seen. What else changes is the count
     // of looks.
-    fn group_seen(&mut self, keyed: &Keyed, first: usize, row: usize) -> Option<u32>
+    fn group_seen(&mut self, keyed: &GroupingRows, first: usize, row: usize) -> Option<u32>
         requires keys { HasKeys keyed.now self.old.firsts.items self.old.keys.items }
         requires first { first + 8 ≤ length self.old.slots.items }
         ensures some { IfSome result (λ number. is_of_group keyed.now self.old.firsts.items row number ≡ true) }
         ensures none { IfNone result (list_any (is_of_group keyed.now self.old.firsts.items row)
             (looked_at self.old.slots.items self.old.apart.items first) ≡ false) }
         ensures same { self.new ≡ record self.old { looks = self.new.looks } }
+        ensures looks { self.new.looks ≡ looks_after keyed.now self.old first row }
     {
         let slots = &self.slots[first..first + MOST_PROBES];
         // most rows are of the group in the first of their slots, for which no loop is gone into
@@ -133,7 +136,7 @@ impl Table {
     }
 
     // Adds the group that begins with a row, of whose key this is the first slot.
-    fn add(&mut self, keyed: &Keyed, first: usize, row: usize) -> Result<u32, AllocError>
+    fn add(&mut self, keyed: &GroupingRows, first: usize, row: usize) -> Result<u32, AllocError>
         requires held { Holds keyed.now row self.old }
         requires new { list_any (alike keyed.now row) self.old.firsts.items ≡ false }
         requires first { first ≡ slot_of self.old.slots.items (key_hash keyed.now row) }
@@ -156,7 +159,7 @@ impl Table {
 
     // The number of a row's group, of 32 bits, which is added where no earlier row is of it.
     #[inline(never)]
-    fn number_of(&mut self, keyed: &Keyed, row: usize) -> Result<u32, AllocError>
+    fn number_of(&mut self, keyed: &GroupingRows, row: usize) -> Result<u32, AllocError>
         requires held { Holds keyed.now row self.old }
         requires row { row < 2 ^ 32 }
         requires few { length self.old.firsts.items < 2 ^ 32 }
@@ -169,12 +172,13 @@ impl Table {
             None => self.add(keyed, first, row),
         }
     }
+
     /// The number of a row's group, of 32 bits, which is added where no earlier row is of it. A guess of it, which may be any number,
     /// is looked at first.
     #[inline(always)]
     pub(crate) fn number_guessed(
         &mut self,
-        keyed: &Keyed,
+        keyed: &GroupingRows,
         row: usize,
         guess: u32,
     ) -> Result<u32, AllocError>

@@ -6,7 +6,7 @@ use wvalues::Value;
 
 /// Rows, and the columns of a set, of which some may be lacking.
 #[derive(Clone, Copy)]
-pub(crate) struct Keyed<'a> {
+pub(crate) struct GroupingRows<'a> {
     pub(crate) columns: &'a [Option<usize>],
     pub(crate) rows: &'a [&'a [Value]],
     /// What a row has behind its end, and in a column that the set lacks.

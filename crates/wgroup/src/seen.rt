@@ -2,14 +2,14 @@
 //!
 //! The table is given up where there are many groups, which a sort finds sooner, or where rows were compared with many groups
 //! that stand apart, as those of keys that were chosen for their hashes do.
-ghost use Rattle.std.specs.Prelude.{◌≡◌, ◌<◌, ◌≤◌, ◌^◌, false, length, IfOk, IfSome};
+ghost use Rattle.std.specs.Prelude.{◌≡◌, ◌*◌, ◌-◌, ◌<◌, ◌≤◌, ◌^◌, false, length, min, IfOk, IfSome};
 ghost use Rattle.wrows.specs.Laid.{rows_seen};
 ghost use Rattle.wgroup.specs.Grouping.{agree};
 ghost use Rattle.wgroup.specs.Sight.{IsSight};
 ghost use Rattle.wgroup.specs.Table.{alike};
 
-use crate::group_slots::{Table, empty_table};
-use crate::keyed::Keyed;
+use crate::group_slots::{GroupTable, empty_table};
+use crate::keyed::GroupingRows;
 use crate::sight::Sight;
 use std::alloc::{AllocError, Global};
 use wvalues::Value;
@@ -45,8 +45,9 @@ fn most_groups(rows: usize) -> usize
 
 // Whether a table is slower than a sort of so many rows: there are more groups than it is for, or rows were compared with many
 // that stand apart.
-fn is_slow(table: &Table, most: usize, rows: usize) -> bool
-    ensures { result ≡ false → length table.now.firsts.items ≤ most }
+fn is_slow(table: &GroupTable, most: usize, rows: usize) -> bool
+    ensures few { result ≡ false → length table.now.firsts.items ≤ most }
+    ensures looks { result ≡ false → table.now.looks ≤ min (rows * 8) (2 ^ 64 - 1) }
 {
     if table.firsts.len() > most {
         return true;
@@ -55,7 +56,7 @@ fn is_slow(table: &Table, most: usize, rows: usize) -> bool
 }
 
 // The groups of rows, by a table, unless that is given up.
-fn tabled_groups(alloc: Global, keyed: &Keyed) -> Result<Option<Sight>, AllocError>
+fn tabled_groups(alloc: Global, keyed: &GroupingRows) -> Result<Option<Sight>, AllocError>
     requires { length keyed.now.rows.now < 2 ^ 31 }
     ensures { IfOk result (λ seen. IfSome seen (λ sight. IsSight (alike keyed.now) (length keyed.now.rows.now)
         sight.firsts.items sight.numbers.items)) }
@@ -94,7 +95,7 @@ pub(crate) fn seen_groups(
     if rows.len() < FEWEST_ROWS {
         return Ok(None);
     }
-    let keyed = Keyed {
+    let keyed = GroupingRows {
         columns,
         rows,
         null: &Value::Null,

@@ -31,7 +31,7 @@ pub(crate) struct SharedColumn<'a> {
     pub(crate) summaries: Vec<Option<Summaries<'a>>>,
 }
 
-/// Among how many calls one is looked for that reads something.
+/// How many calls ahead are searched for one with an argument.
 const LOOKED_AT: usize = 64;
 
 // What the first of the calls reads on each row, or where nothing is shared the first of some that reads something; none where it
@@ -49,8 +49,8 @@ fn argument_of(calls: &[GroupCall], is_shared: bool) -> Option<&Expr> {
     None
 }
 
-/// How many rows a group has at least, in the mean of all, where it is kept what they come to. Where groups are many this would take
-/// more memory than a list of the values, and more than what each call answers.
+/// Summaries are kept where groups have this many rows on average. Where groups are many they would take more memory than a list of the
+/// values, and more than what each call answers.
 const ROWS_OF_GROUP: usize = 8;
 
 // What the rows of each group of a set come to, if its groups are made of rows and few beside these.

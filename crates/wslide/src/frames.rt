@@ -34,9 +34,8 @@ impl<P: Copy> FrameQueues<P> {
 
 /// Adds the fold of each row's frame, in the order of the partition's rows. But for room in the list it takes no memory.
 ///
-/// The meter counts at most eight joins for each row, also where memory is refused, and three where the frame clause
-/// excludes no row. Both are within `most`, which allows `6 * L + 16` for each where rows are excluded, with `L` the
-/// least number whose power of two reaches the rows.
+/// At most three joins a row, eight where rows are excluded, also where memory is refused. The clause `joins` allows the looser bound
+/// of a tree.
 pub fn push_frame_folds<F: Fold>(
     queues: &mut FrameQueues<F::Part>,
     folds: &mut Vec<F::Part>,

@@ -1,4 +1,4 @@
-ghost use Rattle.std.specs.Prelude.{◌≡◌, ◌≤◌, ◌<◌, ◌+◌, ◌^◌, ◌++◌, ℕ, true, length, OnOk, All};
+ghost use Rattle.std.specs.Prelude.{◌≡◌, ◌≤◌, ◌<◌, ◌+◌, ◌-◌, ◌^◌, ◌++◌, ℕ, true, length, OnOk, All};
 ghost use Rattle.wslide.specs.Frames.{folds_of_frames};
 ghost use Rattle.wframe.specs.Frame.{frame_extent};
 
@@ -9,7 +9,8 @@ use wframe::{FrameExclusion, Frames, Span};
 
 /// Whether all frames begin with the partition, as the last one does: none begins behind it.
 pub(crate) fn begin_together(frames: &Frames) -> bool
-    ensures { result ≡ true → (row : ℕ) → row < length frames.now.keys → (frame_extent frames.now row).from ≡ 0 }
+    ensures all { result ≡ true → (row : ℕ) → row < length frames.now.keys → (frame_extent frames.now row).from ≡ 0 }
+    ensures found { 0 < length frames.now.keys → (frame_extent frames.now (length frames.now.keys - 1)).from ≡ 0 → result ≡ true }
 {
     let rows = frames.count();
     if rows == 0 {

@@ -2,10 +2,11 @@ use Rattle.std.proofs.Common.{◌≡◌, ◌<◌, All, Some, length, map, get_or
 use Rattle.std.proofs.lemmas.List.{length-map}
 use Rattle.wframe.specs.Peers.{key_at}
 use Rattle.wrows.specs.Laid.{row_seen, rows_seen}
-use Rattle.wgroup.specs.Grouping.{agree, set_columns}
+use Rattle.wgroup.specs.Grouping.{agree, groups_by, set_columns}
 use Rattle.wgroup.specs.Sight.{IsSight}
 use Rattle.wgroup.specs.Held.{by_row, row_numbers}
 use Rattle.wgroup.proofs.CoarserFacts.{agree_on_part, coarser_groups_are}
+use Rattle.wgroup.proofs.KeyFacts.{columns_long}
 use Rattle.wgroup.proofs.MadeFacts.{as_many_rows, joined_rows, made_of_groups, seen_of_groups}
 use Rattle.wgroup.proofs.SeenFacts.{agree_equiv}
 use Rattle.wgroup.proofs.SightFacts.{as_many_numbers, firsts_fewer, firsts_within}
@@ -63,7 +64,9 @@ keyed_groups-requires c =
     c.in_ok-few.ensures ∙ ap (map (key_at rows)) c.deref.ensures.value in
     let long : length few ≡ length finer.firsts.items = sym (length-map few row_seen) ∙ ap length picked
     ∙ length-map finer.firsts.items (key_at rows) in
-    coarser_groups_are kept (set_columns columns finer.set.items) rows (rows_seen few) (length c.args.rows.now)
+    subst (λ k. IsSight (agree k rows) (length c.args.rows.now) c.in_ok-firsts.firsts.items
+    (by_row c.in_ok-numbers.numbers.value.items (Some c.in_ok-made.made))) (sym (c.deref-6.ensures.value ∙ c.in_ok-kept.ensures))
+    (coarser_groups_are kept (set_columns columns finer.set.items) rows (rows_seen few) (length c.args.rows.now)
     finer.firsts.items (row_numbers finer) seen.firsts.items seen.numbers.items c.in_ok-firsts.firsts.items
     (by_row c.in_ok-numbers.numbers.value.items (Some c.in_ok-made.made)) (agree_on_part columns set finer.set.items rows
     c.requires.part) c.requires.kept.sight picked
@@ -76,7 +79,17 @@ keyed_groups-requires c =
     ∙ ap (map (λ i. get_or finer.firsts.items i 0)) c.deref-5.ensures.value)
     (ap (λ v. by_row v.items (Some c.in_ok-made.made)) c.in_ok-numbers.ensures.cases
     ∙ joined_rows c.args.place seen.numbers.items finer.numbers.value.items finer.finer c.in_ok-made.made
-    c.in_ok-made.ensures (λ l e. (c.requires.linked l e).1))
+    c.in_ok-made.ensures (λ l e. (c.requires.linked l e).1)))
+
+pub returns-clause-groups : goal.returns-clause-groups
+returns-clause-groups c =
+    let rows = rows_seen c.args.rows.now in
+    c.in_ok-groups.ensures.groups ∙ ap (λ k. groups_by c.args.set.now k rows) (c.deref-6.ensures.value ∙ c.in_ok-kept.ensures)
+
+pub returns-clause-width : goal.returns-clause-width
+returns-clause-width c =
+    c.in_ok-groups.ensures.width ∙ ap length (c.deref-6.ensures.value ∙ c.in_ok-kept.ensures)
+    ∙ columns_long c.args.columns.now c.args.set.now
 
 pub returns-clause-len : goal.returns-clause-len
 returns-clause-len c =

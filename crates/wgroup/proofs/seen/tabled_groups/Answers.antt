@@ -19,5 +19,5 @@ loop-row-preserved c =
       numbered = c.in_ok-push.ensures.items
           ∙ numbers_next (alike keyed) (agree_equiv keyed.columns.now (rows_seen keyed.rows.now)) c.loop-row.row
           c.in_ok-number_guessed.field-0 c.loop-row.numbers.items c.loop-row.invariant.numbered c.in_ok-number_guessed.ensures.number;
-      few = c.is_slow.ensures c.if-is_slow.false;
+      few = c.is_slow.ensures.few c.if-is_slow.false;
     }

@@ -8,6 +8,9 @@ use Rattle.wslide.specs.Laws.{total, rows_fold}
 use Rattle.wslide.proofs.Spans.{places_next}
 use Rattle.wslide.proofs.sliding.push_sliding_folds.Goals as goal
 
+pub push_running_folds-requires-clause-begin : goal.push_running_folds-requires-clause-begin
+push_running_folds-requires-clause-begin g c = c.begin_together.ensures.all c.if-begin_together.true
+
 pub moved_fold-part-requires-clause-rises : goal.moved_fold-part-requires-clause-rises
 moved_fold-part-requires-clause-rises g c =
     let held = c.loop-row.held in

@@ -2,7 +2,7 @@ use Rattle.std.proofs.Common.{◌≡◌, false, ap, ◌∙◌}
 use Rattle.std.specs.List.{list_any}
 use Rattle.wgroup.specs.Table.{Holds, alike, key_hash, slot_of}
 use Rattle.wgroup.proofs.TableFacts.{held_known, held_still, if_ok, missing, number_is, number_new}
-use Rattle.wgroup.proofs.group_slots.Table.number_of.Goals as goal
+use Rattle.wgroup.proofs.group_slots.GroupTable.number_of.Goals as goal
 
 pub returns-in-Some-clause-held : goal.returns-in-Some-clause-held
 returns-in-Some-clause-held c =

@@ -1,6 +1,6 @@
 use Rattle.std.proofs.Common.{refl, sym, ◌∙◌}
 use Rattle.wgroup.proofs.TableFacts.{held_known, number_is}
-use Rattle.wgroup.proofs.group_slots.Table.number_guessed.Goals as goal
+use Rattle.wgroup.proofs.group_slots.GroupTable.number_guessed.Goals as goal
 
 pub returns-then-is_of_group-clause-held : goal.returns-then-is_of_group-clause-held
 returns-then-is_of_group-clause-held c =

@@ -7,8 +7,8 @@ use Rattle.wvalues.specs.Meaning.{meaning}
 use Rattle.wgroup.specs.Sight.{key_in}
 use Rattle.wgroup.specs.Table.{AreMet, HasKeys}
 use Rattle.wgroup.proofs.TableFacts.{IsPut, free_near, held_new, keys_more, met_apart, met_near}
-use Rattle.wgroup.proofs.group_slots.Table.add.Goals as goal
-use Rattle.wgroup.proofs.group_slots.Table.add.Goals.{in-Some, in-None+in_ok-push-in-None}
+use Rattle.wgroup.proofs.group_slots.GroupTable.add.Goals as goal
+use Rattle.wgroup.proofs.group_slots.GroupTable.add.Goals.{in-Some, in-None+in_ok-push-in-None}
 
 pub returns-clause-held : goal.returns-clause-held
 returns-clause-held c =
