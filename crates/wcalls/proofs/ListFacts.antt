@@ -1,7 +1,8 @@
 -- Lists of values of rows, and what is made of them.
-use Rattle.std.proofs.Common.{◌≡◌, Option, None, Some, Vec, Global, ℕ, ◌+◌, ◌*◌, ◌<◌}
+use Rattle.std.proofs.Common.{◌≡◌, Bool, true, false, not, true≢false, Option, None, Some, Vec, Global, ℕ, ◌+◌, ◌*◌, ◌<◌}
 use Rattle.std.proofs.Common.{List, [], ◌∷◌, length, map, take, drop, get_or, refl, sym, ap, subst, ◌∙◌, arith}
-use Rattle.std.specs.Prelude.{All, IfSome, ◌≤◌, ◌^◌}
+use Rattle.std.specs.Prelude.{All, IfSome, IsTrue, ◌≤◌, ◌^◌, ◌↔◌}
+use Rattle.std.specs.Option.{is_some}
 use Rattle.std.specs.List.{AllByRecursion}
 use Rattle.std.specs.Ordering.{on}
 use Rattle.std.proofs.lemmas.Cmp.{on_total}
@@ -61,6 +62,13 @@ pub one_key_found : (l : RowLists) (orders : List SortKey) (found : Option (Vec 
     → IfSome found (λ codes. AreRowCodes orders (lists_in l) codes.items)
 one_key_found l orders None wide one few answer = tt
 one_key_found l orders (Some codes) wide one few answer = one_key_codes l orders codes.items wide one few answer
+
+-- they are found just where a test says no
+pub found_just : {X : Type 0} (found : Option X) (b : Bool) → (IsTrue (is_some found) ↔ (b ≡ false)) → is_some found ≡ not b
+found_just None false e = absurd (true≢false (sym (e.1 refl)))
+found_just None true e = refl
+found_just (Some x) false e = refl
+found_just (Some x) true e = absurd (true≢false (e.0 refl))
 
 -- two functions that agree below a number, on numbers below it
 map-below : {X : Type 0} (f g : ℕ → X) (n : ℕ) → ((i : ℕ) → i < n → f i ≡ g i) → (xs : List ℕ) → AllByRecursion (λ i. i < n) xs

@@ -14,4 +14,4 @@ KeysDiffer rows plan = (o : Ordered) → ordered_rows rows plan ≡ Ok o → Tel
 -- the numbers of rows in the order of the window that a plan says, and whether it is known that no two share their keys
 pub record IsPresorted (rows : List Row) (plan : WindowPlan) (p : Presorted) : Type 0 where
   pub numbers : window_numbers rows plan ≡ Ok p.numbers.items
-  pub differ : p.differ ≡ true → KeysDiffer rows plan
+  pub differ : p.unique_keys ≡ true → KeysDiffer rows plan

@@ -1,12 +1,16 @@
 //! The parts of a window, each in a list of its own.
 ghost use Rattle.std.specs.Prelude.{◌≡◌, IfOk, length, map};
+ghost use Rattle.std.specs.List.{list_all};
+ghost use Rattle.std.specs.Option.{is_some};
 ghost use Rattle.wplan.specs.Formula.{formula};
+ghost use Rattle.wplan.specs.declared.expr.Expr.{out-Expr};
 ghost use Rattle.wplan.specs.Plans.{key_plan, window_plan};
 ghost use Rattle.wrows.specs.Outcomes.{Gives};
 ghost use Rattle.wrows.specs.Columns.{lists_of};
 ghost use Rattle.wrows.specs.Laid.{formulas_seen, rows_seen};
+ghost use Rattle.wrows.specs.PlainColumns.{is_plain, plain_place};
 ghost use Rattle.wrows.specs.Sorting.{ascending};
-ghost use Rattle.wcalls.specs.Listed.{lists_in};
+ghost use Rattle.wcalls.specs.Listed.{are_lent, lists_in};
 ghost use Rattle.wcalls.specs.Frames.{bound_of, exclusion_of, frame_of, mode_of};
 
 use crate::row_keys::RowKeys;
@@ -27,6 +31,7 @@ const ASCENDING: SortKey = SortKey {
 // Each of some expressions, lent.
 fn lent_values(alloc: Global, values: &[Expr]) -> Result<Vec<&Expr>, AllocError>
     ensures values { IfOk result (λ lent. formulas_seen lent.items ≡ map formula values.now) }
+    ensures plain { IfOk result (λ lent. list_all is_plain lent.items ≡ list_all (λ e. is_some (plain_place (out-Expr e))) values.now) }
     ensures len { IfOk result (λ lent. length lent.items ≡ length values.now) }
 {
     let mut lent = Vec::with_capacity(alloc, values.len())?;
@@ -51,6 +56,8 @@ fn value_orders(alloc: Global, values: &[Expr]) -> Result<Vec<SortKey>, AllocErr
 /// The values of keys. `AllocError`: a growth was refused.
 pub fn key_values(alloc: Global, keys: &[ResolvedKey]) -> Result<Vec<&Expr>, AllocError>
     ensures values { IfOk result (λ values. formulas_seen values.items ≡ map (λ k. k.value) (map key_plan keys.now)) }
+    ensures plain { IfOk result (λ values. list_all is_plain values.items
+        ≡ list_all (λ k. is_some (plain_place (out-Expr k.value))) keys.now) }
     ensures len { IfOk result (λ values. length values.items ≡ length keys.now) }
 {
     let mut values = Vec::with_capacity(alloc, keys.len())?;
@@ -72,7 +79,7 @@ pub fn key_orders(alloc: Global, keys: &[ResolvedKey]) -> Result<Vec<SortKey>, A
     Ok(orders)
 }
 
-/// The partition values of rows, in their order.
+/// The partition values of rows, in their order. Where all are plain columns, they are lent from the rows.
 pub(crate) fn partition_keys<'a>(
     alloc: Global,
     window: &ResolvedWindow,
@@ -80,6 +87,8 @@ pub(crate) fn partition_keys<'a>(
 ) -> Result<RowKeys<'a>, AnswerFault>
     ensures gives { Gives (λ values. lists_in values.lists) result (lists_of (window_plan window.now).partition (rows_seen rows.now)) }
     ensures orders { IfOk result (λ values. values.orders.items ≡ ascending (window_plan window.now).partition) }
+    ensures lent { IfOk result (λ values. are_lent values.lists
+        ≡ list_all (λ e. is_some (plain_place (out-Expr e))) window.now.partition.items) }
 {
     let values = lent_values(alloc, &window.partition)?;
     let lists = row_lists(alloc, &values, rows)?;
@@ -87,7 +96,7 @@ pub(crate) fn partition_keys<'a>(
     Ok(RowKeys { lists, orders })
 }
 
-/// The keys of rows, in their order.
+/// The keys of rows, in their order. Where the values of all are plain columns, they are lent from the rows.
 pub(crate) fn window_keys<'a>(
     alloc: Global,
     window: &ResolvedWindow,
@@ -96,6 +105,8 @@ pub(crate) fn window_keys<'a>(
     ensures gives { Gives (λ keys. lists_in keys.lists) result (lists_of (map (λ k. k.value) (window_plan window.now).keys)
         (rows_seen rows.now)) }
     ensures orders { IfOk result (λ keys. keys.orders.items ≡ map (λ k. k.order) (window_plan window.now).keys) }
+    ensures lent { IfOk result (λ keys. are_lent keys.lists
+        ≡ list_all (λ k. is_some (plain_place (out-Expr k.value))) window.now.keys.items) }
 {
     let values = key_values(alloc, &window.keys)?;
     let lists = row_lists(alloc, &values, rows)?;

@@ -5,8 +5,7 @@ use std::alloc::{AllocError, Global};
 use wplan::WindowFunction;
 use wvalues::Value;
 
-/// Lists that are empty, of which the one that a function's column is put into may have room for it. What they have room for is a
-/// matter of speed alone.
+/// An empty list reserved for one function's column; its capacity is speed alone.
 #[derive(Drop)]
 pub(crate) struct Room {
     pub(crate) numbers: Vec<u32>,

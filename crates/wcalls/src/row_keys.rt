@@ -1,5 +1,6 @@
 //! What rows are ordered by.
 ghost use Rattle.std.specs.Prelude.{◌≡◌, ◌*◌, ◌+◌, ◌==◌, ◌≤◌, ◌<◌, ◌^◌, ℕ, true, false, All, IfOk, IfSome, length, map, slice_index_or};
+ghost use Rattle.std.specs.Prelude.{not};
 ghost use Rattle.std.specs.List.{flat_map};
 ghost use Rattle.std.specs.Option.{is_some};
 ghost use Rattle.std.specs.Ordering.{on, nat_cmp};
@@ -7,7 +8,7 @@ ghost use Rattle.wvalues.specs.Order.{keys_cmp};
 ghost use Rattle.wframe.specs.KeyRows.{key_lists, sort_keys};
 ghost use Rattle.wframe.specs.Peers.{key_at};
 ghost use Rattle.wframe.specs.Sorting.{sorted};
-ghost use Rattle.wrows.specs.CodedRows.{AreRowCodes, code_at};
+ghost use Rattle.wrows.specs.CodedRows.{AreRowCodes, code_at, key_column, leads_with_text};
 ghost use Rattle.wrows.specs.Laid.{rows_in, rows_seen};
 ghost use Rattle.wrows.specs.Plain.{numbers_by};
 ghost use Rattle.wcalls.specs.Listed.{lists_in, width_of};
@@ -101,10 +102,13 @@ impl<'a> RowKeys<'a> {
         Ok(Some(codes))
     }
 
-    /// Codes for rows of one key that holds no text. Those of texts would have to be sorted, so texts are compared by
-    /// themselves.
+    /// Codes for rows of one key, as [`RowKeys::codes`] gives them, and none where the first value that is not null is a text: texts
+    /// would have to be sorted, so they are compared by themselves.
     pub(crate) fn number_codes(&self, alloc: Global) -> Result<Option<Vec<u32>>, AllocError>
-        ensures { IfOk result (λ found. IfSome found (λ codes. AreRowCodes self.now.orders.items (lists_in self.now.lists) codes.items)) }
+        ensures codes { IfOk result (λ found. IfSome found (λ codes. AreRowCodes self.now.orders.items
+            (lists_in self.now.lists) codes.items)) }
+        ensures found { length self.now.orders.items ≡ 1 → length (lists_in self.now.lists) ≤ 2 ^ 32
+            → IfOk result (λ found. is_some found ≡ not (leads_with_text (key_column 0 (lists_in self.now.lists)))) }
     {
         if !self.has_one_key() {
             return Ok(None);

@@ -1,6 +1,7 @@
 //! Rows in the order of a window.
-ghost use Rattle.std.specs.Prelude.{◌≡◌, ◌*◌, ◌+◌, ◌-◌, ◌<◌, ◌^◌, true, min, List, All};
+ghost use Rattle.std.specs.Prelude.{◌≡◌, ◌*◌, ◌+◌, ◌-◌, ◌<◌, ◌≤◌, ◌^◌, true, min, List, All};
 ghost use Rattle.std.specs.Prelude.{OnOk, OnErr, IfOk, IfSome, IsTrue, Some, length, map, option_map};
+ghost use Rattle.std.specs.Option.{is_some};
 ghost use Rattle.std.specs.Ordering.{on};
 ghost use Rattle.wvalues.specs.declared.key.SortKey.{SortKey};
 ghost use Rattle.wvalues.specs.Meaning.{Meaning};
@@ -43,16 +44,17 @@ pub struct Presorted {
     pub numbers: Vec<u32>,
     /// Whether it is known that no two rows share all their keys, whatever partitions they stand in. Where it is not known, they
     /// may still all differ.
-    pub differ: bool,
+    pub unique_keys: bool,
 }
 
 /// Rows by the partition values of a window, by its keys and then by number, with the partition values and the keys of
 /// each: where these are plain columns, they are not copied. The window's frame plays no part, so it serves each window of
 /// the same partition values and keys.
 ///
-/// A single partition value or key was sorted by codes. These are kept in the order of the rows and tell the rows apart there,
-/// so that partitions and peers are found without a look at the values, which lie scattered. Where it is known that no two
-/// rows share their keys, the numbers of the rows are such codes.
+/// Rows that were sorted by a single partition value or key were sorted by codes. These are kept in the order of the rows and tell
+/// the rows apart there, so that partitions and peers are found without a look at the values, which lie scattered. Rows that are
+/// presorted have codes where these are found without sorting and seem to be of use; where it is known that no two rows share
+/// their keys, the numbers of the rows are such codes.
 #[derive(Drop)]
 pub struct WindowOrder<'a> {
     rows: Vec<u32>,
@@ -76,43 +78,43 @@ impl<'a> Model for WindowOrder<'a> {
 
 impl<'a> WindowOrder<'a> {
     /// Orders rows as a window does. All its partition values and keys are evaluated on every row, and `OutOfRange` where
-    /// one is so on any; the rows are sorted once. The order that is made counts among the orders.
+    /// one is so on any; the rows are sorted once. The order is counted among those that are made.
     pub fn new(
         alloc: Global,
         window: &ResolvedWindow,
         rows: &'a [&'a [Value]],
-        orders: &mut Tally,
+        orders_made: &mut Tally,
     ) -> Result<WindowOrder<'a>, AnswerFault>
         ensures order { Gives (λ order. order) result (ordered_rows (rows_seen rows.now) (window_plan window.now)) }
-        ensures made { OnOk result (orders.new ≡ min (orders.old + 1) (2 ^ 64 - 1)) }
-        ensures none { OnErr result (orders.new ≡ orders.old) }
+        ensures made { OnOk result (orders_made.new ≡ min (orders_made.old + 1) (2 ^ 64 - 1)) }
+        ensures none { OnErr result (orders_made.new ≡ orders_made.old) }
     {
         let values = partition_keys(alloc, window, rows)?;
         let keys = window_keys(alloc, window, rows)?;
         let order = ordered_keys(alloc, values, keys)?;
-        orders.add(1);
+        orders_made.add(1);
         Ok(order)
     }
 
     /// Orders rows as a window does, where they are presorted in it: nothing is sorted. All its partition values
-    /// and keys are evaluated on every row, and `OutOfRange` where one is so on any. The presorted order counts among the
-    /// orders. Where it is known that no two rows share their keys, these are not compared to find peers.
+    /// and keys are evaluated on every row, and `OutOfRange` where one is so on any. The order is counted among those that are
+    /// made. Where it is known that no two rows share their keys, these are not compared to find peers.
     pub fn presorted(
         alloc: Global,
         window: &ResolvedWindow,
         rows: &'a [&'a [Value]],
         presorted: Presorted,
-        orders: &mut Tally,
+        orders_made: &mut Tally,
     ) -> Result<WindowOrder<'a>, AnswerFault>
         requires { IsPresorted (rows_seen rows.now) (window_plan window.now) presorted }
         ensures order { Gives (λ order. order) result (ordered_rows (rows_seen rows.now) (window_plan window.now)) }
-        ensures made { OnOk result (orders.new ≡ min (orders.old + 1) (2 ^ 64 - 1)) }
-        ensures none { OnErr result (orders.new ≡ orders.old) }
+        ensures made { OnOk result (orders_made.new ≡ min (orders_made.old + 1) (2 ^ 64 - 1)) }
+        ensures none { OnErr result (orders_made.new ≡ orders_made.old) }
     {
         let values = partition_keys(alloc, window, rows)?;
         let keys = window_keys(alloc, window, rows)?;
         let order = presorted_keys(alloc, values, keys, presorted)?;
-        orders.add(1);
+        orders_made.add(1);
         Ok(order)
     }
 
@@ -212,7 +214,7 @@ fn presorted_keys<'a>(
     requires count { length (lists_in values.lists) ≡ length (lists_in keys.lists) }
     requires order { presorted.numbers.items ≡ numbers_in_order (lists_in values.lists) values.orders.items (lists_in keys.lists)
         keys.orders.items }
-    requires differ { presorted.differ ≡ true → TellApart (keys_cmp keys.orders.items)
+    requires differ { presorted.unique_keys ≡ true → TellApart (keys_cmp keys.orders.items)
         (map (key_at (lists_in keys.lists)) presorted.numbers.items) presorted.numbers.items }
     ensures { IfOk result (λ order. order ≡ ordered_by (lists_in values.entry.lists) values.entry.orders.items
         (lists_in keys.entry.lists) keys.entry.orders.items) }
@@ -244,9 +246,11 @@ struct RowOrder {
 // The order of rows that have codes for their partition values and for their keys, by both.
 fn coded_order(alloc: Global, firsts: &[u32], seconds: &[u32]) -> Result<RowOrder, AllocError>
     requires { length firsts.now ≡ length seconds.now }
-    ensures { (value_order key_order : List SortKey) (values keys : List (List Meaning))
+    ensures order { (value_order key_order : List SortKey) (values keys : List (List Meaning))
         → AreRowCodes value_order values firsts.now → AreRowCodes key_order keys seconds.now
         → IfOk result (IsRowOrder value_order values key_order keys (length seconds.now)) }
+    ensures values { IfOk result (λ order. is_some order.value_codes ≡ true) }
+    ensures keys { IfOk result (λ order. is_some order.key_codes ≡ true) }
 {
     let order = order_by_codes(alloc, firsts, seconds)?;
     Ok(RowOrder {
@@ -260,8 +264,12 @@ fn coded_order(alloc: Global, firsts: &[u32], seconds: &[u32]) -> Result<RowOrde
 // the keys are sorted by first, and then the partition values, which leaves rows of one partition as they stand.
 fn row_order(alloc: Global, values: &RowKeys, keys: &RowKeys) -> Result<RowOrder, AllocError>
     requires { length (lists_in values.now.lists) ≡ length (lists_in keys.now.lists) }
-    ensures { IfOk result (IsRowOrder values.now.orders.items (lists_in values.now.lists) keys.now.orders.items
+    ensures order { IfOk result (IsRowOrder values.now.orders.items (lists_in values.now.lists) keys.now.orders.items
         (lists_in keys.now.lists) (length (lists_in keys.now.lists))) }
+    ensures values { length values.now.orders.items ≡ 1 → length (lists_in values.now.lists) ≤ 2 ^ 32
+        → IfOk result (λ order. is_some order.value_codes ≡ true) }
+    ensures keys { length keys.now.orders.items ≡ 1 → length (lists_in keys.now.lists) ≤ 2 ^ 32
+        → IfOk result (λ order. is_some order.key_codes ≡ true) }
 {
     let key_codes = keys.codes(alloc)?;
     let value_codes = values.codes(alloc)?;
@@ -326,17 +334,17 @@ fn presorted_codes(
     alloc: Global,
     keys: &RowKeys,
     rows: &[u32],
-    differ: bool,
+    unique_keys: bool,
 ) -> Result<Option<Vec<u32>>, AllocError>
     requires below { All (λ i. i < length (lists_in keys.now.lists)) rows.now }
     requires len { length rows.now ≡ length (lists_in keys.now.lists) }
-    requires differ { differ ≡ true → TellApart (keys_cmp keys.now.orders.items) (map (key_at (lists_in keys.now.lists)) rows.now)
+    requires differ { unique_keys ≡ true → TellApart (keys_cmp keys.now.orders.items) (map (key_at (lists_in keys.now.lists)) rows.now)
         rows.now }
     ensures apart { IfOk result (λ found. IfSome found (λ codes. TellApart (keys_cmp keys.now.orders.items)
         (map (key_at (lists_in keys.now.lists)) rows.now) codes.items)) }
-    ensures numbers { differ ≡ true → IfOk result (λ found. option_map (λ codes. codes.items) found ≡ Some rows.now) }
+    ensures numbers { unique_keys ≡ true → IfOk result (λ found. option_map (λ codes. codes.items) found ≡ Some rows.now) }
 {
-    if differ {
+    if unique_keys {
         let codes = Vec::from_slice(alloc, rows)?;
         return Ok(Some(codes));
     }
@@ -357,16 +365,16 @@ fn presorted_order(
         (numbers_by keys.now.orders.items (lists_in keys.now.lists) (length (lists_in keys.now.lists))) }
     requires below { All (λ i. i < length (lists_in keys.now.lists)) presorted.numbers.items }
     requires len { length presorted.numbers.items ≡ length (lists_in keys.now.lists) }
-    requires differ { presorted.differ ≡ true → TellApart (keys_cmp keys.now.orders.items)
+    requires differ { presorted.unique_keys ≡ true → TellApart (keys_cmp keys.now.orders.items)
         (map (key_at (lists_in keys.now.lists)) presorted.numbers.items) presorted.numbers.items }
     ensures { IfOk result (IsRowOrder values.now.orders.items (lists_in values.now.lists) keys.now.orders.items
         (lists_in keys.now.lists) (length (lists_in keys.now.lists))) }
 {
     let Presorted {
         numbers: rows,
-        differ,
+        unique_keys,
     } = presorted;
-    let key_codes = presorted_codes(alloc, keys, &rows, differ)?;
+    let key_codes = presorted_codes(alloc, keys, &rows, unique_keys)?;
     let value_codes = found_codes(alloc, values, &rows)?;
     Ok(RowOrder {
         rows,
@@ -382,9 +390,10 @@ fn codes_of(
     rows: &[u32],
 ) -> Result<Option<Vec<u32>>, AllocError>
     requires { IfSome codes (λ codes. All (λ i. i < length codes.items) rows.now) }
-    ensures { (keys : List SortKey) (lists : List (List Meaning))
+    ensures apart { (keys : List SortKey) (lists : List (List Meaning))
         → IfSome codes (λ codes. AreRowCodes keys lists codes.items)
         → IfOk result (λ found. IfSome found (λ codes. TellApart (keys_cmp keys) (map (key_at lists) rows.now) codes.items)) }
+    ensures found { IfOk result (λ found. is_some found ≡ is_some codes) }
 {
     match codes {
         Some(codes) => {

@@ -3,6 +3,7 @@ use Rattle.std.proofs.Common.{◌≡◌, ℕ, ◌+◌, ◌<◌, ◌||◌, Bool, 
 use Rattle.std.proofs.Common.{take, take-append-drop, drop, length-append, arith, take_all, get_or, append-nil, append_assoc, ◌≤◌}
 use Rattle.std.proofs.Common.{Some, Result, Ok, Err, refl, sym, ap, ◌∙◌}
 use Rattle.std.specs.List.{flat_map, list_any}
+use Rattle.std.proofs.lemmas.List.{length_push}
 use Rattle.std.proofs.lemmas.List.Elements.{filter-append, filter_more}
 use Rattle.std.proofs.lemmas.List.Folds.{list_any-append, list_any_at, list_any_more}
 use Rattle.wvalues.specs.Names.{NameParts}
@@ -35,6 +36,16 @@ held_more p stored old before after i row h e so_far more =
     one : (b : Bool) → cond b (before ++ row ∷ []) before ≡ before ++ cond b (row ∷ []) []
     one true = refl
     one false = sym (append-nil before)
+
+-- at most one row is held more
+pub held_long : (b : Bool) (before after : List Row) (row : Row) → after ≡ cond b (before ++ row ∷ []) before
+    → length after ≤ length before + 1
+held_long true before after row e =
+    let long : length after ≡ length before + 1 = ap length e ∙ length_push before row in
+    omega (arith, long)
+held_long false before after row e =
+    let long : length after ≡ length before = ap length e in
+    omega (arith, long)
 
 -- a fault of a row is one of the segment
 pub row_refused : (t : Formula) (stored : List Row) (i : ℕ) (row : Row) (fault : AnswerFault) → i < length stored

@@ -8,7 +8,7 @@ use Rattle.std.specs.Cmp.{IsTotalOrder}
 use Rattle.std.specs.List.{list_any}
 use Rattle.std.specs.Ordering.{is_lt, on}
 use Rattle.std.proofs.lemmas.Cmp.{on_total}
-use Rattle.std.proofs.lemmas.List.{get_or-map, length-map, map-append}
+use Rattle.std.proofs.lemmas.List.{get_or-map, get_or-take, length-map, map-append}
 use Rattle.wvalues.specs.declared.key.SortKey.{SortKey}
 use Rattle.wvalues.specs.declared.value.Value.{Value}
 use Rattle.wvalues.specs.Order.{keys_cmp}
@@ -116,6 +116,16 @@ pruned keys most all l new some lead is within last =
         first.last_is_pivot (row_cmp keys) (rows_total keys) most (row_seen q) held some (omega (arith, some, w, seen)) in
         subst (λ rows. most ≤ length (filter (comes_by keys (row_seen q)) rows)) (sym is)
         (subst (λ r. most ≤ length (filter (comes_by keys r) ys)) row many)
+
+-- the last of those that are left
+pub last_left : (keys : List SortKey) (most : ℕ) (held rows : List (Bor (List Value))) (pivot : Option (Bor (List Value))) → 0 < most
+    → rows_seen rows ≡ take most (rows_by keys (rows_seen held)) → IfSome pivot (λ last. most ≤ length rows)
+    → IfSome pivot (λ last. last ≡ get_or rows (most - 1) last)
+    → IfSome pivot (λ last. row_seen last ≡ get_or (rows_by keys (rows_seen held)) (most - 1) [])
+last_left keys most held rows None some is within last = tt
+last_left keys most held rows (Some q) some is within last =
+    ap row_seen last ∙ sym (get_or-map row_seen rows (most - 1) q [] (omega (arith, some, within)))
+    ∙ ap (λ ys. get_or ys (most - 1) []) is ∙ get_or-take most (rows_by keys (rows_seen held)) (most - 1) [] (omega (arith, some))
 
 -- what a SELECT without windows answers of rows, by the rows in order
 abbrev pub item_row : SelectPlan → Row → Row

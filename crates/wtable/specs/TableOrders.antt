@@ -85,7 +85,7 @@ DifferKept segments plan = (holds : Row → Bool) → KeysDiffer (filter holds (
 -- the table's rows in the order of a window, and whether it is known that no two share its keys
 pub record IsTableOrder (segments : List (List Row)) (t : TableOrder) : Type 0 where
   pub order : IsOrderFor segments (by_window (window_plan t.window.now)) t.rows.items
-  pub differ : t.differ ≡ true → DifferKept segments (window_plan t.window.now)
+  pub differ : t.unique_keys ≡ true → DifferKept segments (window_plan t.window.now)
 
 -- an order of the table's rows that is also that of a window
 abbrev pub shares : ResolvedWindow → TableOrder → Bool
@@ -156,6 +156,14 @@ pub record IsNumbered (condition : Option Formula) (segments : List (List Row)) 
   pub fit : length (joined segments) < 2 ^ 64
   pub starts : kept.starts.items ≡ starts_from 0 segments
   pub numbers : AreNumbers condition (joined segments) kept.numbers
+
+-- what is told of the kept rows in the order of a window: their numbers, and whether no two of them are known to share its keys
+abbrev pub told_presorted : PresortedOrder → ResolvedWindow × (List ℕ × Bool)
+told_presorted p = (p.window.now, (p.presorted.numbers.items, p.presorted.unique_keys))
+
+-- the same of the table's rows, of which some are kept
+abbrev pub told_of : NumberedRows → TableOrder → ResolvedWindow × (List ℕ × Bool)
+told_of kept t = (t.window.now, (presorted_numbers kept t.rows.items, t.unique_keys))
 
 -- presorted numbers in the order of a window
 abbrev pub IsPresortedOf : List Row → PresortedOrder → Type 0

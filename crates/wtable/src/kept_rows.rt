@@ -1,5 +1,5 @@
 //! The table's rows, as the live segments of a set have them.
-ghost use Rattle.std.specs.Prelude.{◌≡◌, ◌+◌, ◌<◌, ◌∷◌, ◌++◌, [], if◌then◌else◌, false, true, IfNone, IfOk, OnOk, Some, filter};
+ghost use Rattle.std.specs.Prelude.{◌≡◌, ◌+◌, ◌<◌, ◌≤◌, ◌∷◌, ◌++◌, [], if◌then◌else◌, false, true, IfNone, IfOk, IfSome, OnOk, Some, filter};
 ghost use Rattle.std.specs.Prelude.{length, map};
 ghost use Rattle.std.specs.List.{list_any};
 ghost use Rattle.wvalues.specs.Meaning.{meaning};
@@ -178,7 +178,7 @@ fn rows_held<'a>(
 /// they lie.
 ///
 /// The condition is evaluated on every row: `OutOfRange` where a number is so on any of them. `TooManyRows` where more than
-/// 2,147,483,647 rows are kept, `NoMemory` where memory is refused.
+/// 2,147,483,647 rows are kept, `NoMemory` where memory is refused, or of a set whose cells are not made (`SegmentSet::make`).
 pub fn kept_table_rows<'a>(
     alloc: Global,
     condition: &Option<Expr>,
@@ -190,8 +190,8 @@ pub fn kept_table_rows<'a>(
     not_too_many(held)
 }
 
-// Appends the rows of a segment on which a condition is true, as long as no more than so many are held. It says whether it went
-// over all rows.
+// Appends the rows of a segment on which a condition is true, until one more than so many are held. It says whether it went over all
+// rows.
 fn push_few_where<'a>(
     held: &mut Vec<&'a [Value]>,
     condition: &Condition,
@@ -204,6 +204,7 @@ fn push_few_where<'a>(
         (holds_on (formula condition.now.expr.now)) kept.now.content.rows) }
     ensures stopped { IfOk result (λ all. all ≡ false → most < length held.old.items + length (filter
         (holds_on (formula condition.now.expr.now)) kept.now.content.rows)) }
+    ensures few { length held.old.items ≤ most + 1 → OnOk result (length held.new.items ≤ most + 1) }
 {
     let segment = kept.segment()?;
     for row in 0..segment.rows() {
@@ -226,6 +227,7 @@ fn few_rows_where<'a>(
     ensures rows { MayGive (λ held. rows_seen held.items) result (held_rows (Some (formula condition.now.expr.now)) (rows_of_set set.now)) }
     ensures given { IfOk result (λ found. IfNone found (most < length (filter (holds_on (formula condition.now.expr.now))
         (rows_of_set set.now)))) }
+    ensures few { IfOk result (λ found. IfSome found (λ held. length held.items ≤ most + 1)) }
 {
     let mut held = Vec::new(alloc);
     'segments: for (_, segment) in set.lives() {
@@ -265,7 +267,7 @@ fn few_table_rows<'a>(
 ///
 /// The condition is evaluated on every row before rows are answered: `OutOfRange` where a number is so on any of them, also
 /// where it ends with that before it sees that they are not few. `TooManyRows` where more than 2,147,483,647 rows are kept,
-/// `NoMemory` where memory is refused.
+/// `NoMemory` where memory is refused, or of a set whose cells are not made (`SegmentSet::make`).
 pub fn few_kept_rows<'a>(
     alloc: Global,
     select: &Selection,

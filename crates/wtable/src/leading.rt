@@ -8,7 +8,7 @@ ghost use Rattle.wvalues.specs.Meaning.{Null, meaning};
 ghost use Rattle.wvalues.specs.Order.{key_cmp, keys_cmp};
 ghost use Rattle.wplan.specs.Plans.{output_plan, select_plan};
 ghost use Rattle.wrows.specs.Columns.{Row};
-ghost use Rattle.wrows.specs.Laid.{rows_seen};
+ghost use Rattle.wrows.specs.Laid.{row_seen, rows_seen};
 ghost use Rattle.wruns.specs.Runs.{row_keys};
 ghost use Rattle.wtable.specs.Leading.{AnswerForAll, AreInRange, AsksColumns, AsksFirst, HasGone, IsColumnItem, Lead};
 ghost use Rattle.wtable.specs.Leading.{is_behind, rows_by};
@@ -24,11 +24,11 @@ use wsegment::Segment;
 use wset::SegmentSet;
 use wvalues::{SortKey, Value, compare};
 
-/// Of so many rows that are held those are left that come first, so that fewer are held always.
+/// When this many rows are held, they are sorted and only the first that are asked for stay.
 const MOST_HELD: usize = 2048;
 
-/// So often rows are left out at most. Where they stand by chance it is done a few times; where they nearly fall, over and over, and
-/// then an order is found in less time by a sample.
+/// How often held rows are cut before the search is given up. Rows in random order need few cuts, rows in nearly reversed order one
+/// per thousand rows; then a sample is faster.
 const MOST_CUTS: u32 = 12;
 
 /// Rows that hold the first of all that were gone over, in some order by columns.
@@ -37,7 +37,7 @@ pub struct LeadingRows<'a> {
     pub(crate) rows: Vec<&'a [Value]>,
     /// A row behind which none is held any more: as many as are asked for come before it or are it.
     pub(crate) pivot: Option<&'a [Value]>,
-    /// How often rows were left out.
+    /// How often held rows were cut.
     pub(crate) cuts: u32,
 }
 
@@ -108,12 +108,14 @@ impl<'a> LeadingRows<'a> {
         }
     }
 
-    // Leaves those that come first.
+    // Leaves those that come first, of which the last is the pivot, if there are as many as are asked for.
     fn prune(&mut self, keys: &[SortKey], most: usize) -> Result<(), AllocError>
         requires { 0 < most }
         ensures leads { (all : List Row) → Lead keys.now most all self.old → OnOk result (Lead keys.now most all self.new) }
         ensures few { OnOk result (length self.new.rows.items ≤ most) }
         ensures pivot { OnOk result (most ≤ length self.old.rows.items → is_some self.new.pivot ≡ true) }
+        ensures last { OnOk result (IfSome self.new.pivot (λ row. row_seen row
+            ≡ slice_index_or (rows_by keys.now (rows_seen self.old.rows.items)) (most - 1) [])) }
         ensures cuts { OnOk result (self.new.cuts ≤ self.old.cuts + 1) }
     {
         self.rows.sort_by(|a, b| compare_rows(keys, a, b))?;
@@ -247,9 +249,10 @@ fn only_orders(select: &Selection) -> bool
     are_columns(&select.items)
 }
 
-/// Rows of the set's live segments of which a SELECT answers what it does of all, where it only asks for few of them in an order by
-/// columns; none where it asks for anything else, or rows had to be left out too often, for which there are 12,288 at least. They are
-/// fewer than 2,048, and stay where they lie. The one error is that memory was refused.
+/// Rows of the set's live segments among which are all that the SELECT answers, where it asks for plain columns only, in an order by
+/// columns or in none, and OFFSET plus LIMIT is 1 to 1,024. `None` for another SELECT, or after 12 cuts of the rows that are held,
+/// which takes at least 12,288 rows. Fewer than 2,048 rows, lent from the segments. The one error is that memory was refused, or of a
+/// set whose cells are not made (`SegmentSet::make`).
 pub fn leading_rows<'a>(
     alloc: Global,
     select: &Selection,

@@ -8,7 +8,9 @@
 //!   which it is out of range refuses. What an order of all rows gives of the kept ones is the one that sorting them
 //!   gives; where an order says that no two rows share the keys of its window, none of the kept ones do. What a set knows
 //!   stays as it is; runs, cells and kept orders may be made, and let go.
-//! - Asks: nothing of the rows; of `take_presorted`, whose order it takes out, that each order is one of these rows.
+//! - Asks: nothing of the rows; of a set whose rows are lent, that its cells are made (`SegmentSet::make`), else it answers that there
+//!   is no memory, however much is free (`table_orders` makes them, `kept_count` needs none); of `take_presorted`, whose order it
+//!   takes out, that each order is one of these rows.
 //! - Leaves runs to `wruns` and `wset`, single rows to `wrows`, windows to `wcalls`, and answers to `wplanner`.
 //!
 //! Read `specs/Tables.antt`, `specs/TableOrders.antt`, `specs/Referenced.antt`, `specs/Leading.antt`,

@@ -165,7 +165,7 @@ fn rows_held<'a>(
 /// each row of the table. They stay where they lie.
 ///
 /// The condition is evaluated on every row: `OutOfRange` where a number is so on any of them. `TooManyRows` where more than
-/// 2,147,483,647 rows are kept, `NoMemory` where memory is refused.
+/// 2,147,483,647 rows are kept, `NoMemory` where memory is refused, or of a set whose cells are not made (`SegmentSet::make`).
 pub fn numbered_table_rows<'a>(
     alloc: Global,
     condition: &Option<Expr>,

@@ -49,7 +49,7 @@ pub struct TableOrder<'a> {
     pub rows: Vec<RowRef>,
     /// Whether it is known that no two rows of the table share all keys of the window. It is asked only of a window without
     /// partition values, whose keys are more than one column of numbers.
-    pub differ: bool,
+    pub unique_keys: bool,
 }
 
 /// The rows of the table in orders that a SELECT asks for.
@@ -212,7 +212,7 @@ fn keys_differ(
 }
 
 // Adds the table's rows in the order of a window, where it is one by columns and there is none that the window shares, nor are
-// there as many as are taken from runs.
+// there as many as are taken from runs. Where none is added, the set stays as it is.
 fn add_order<'a>(
     alloc: Global,
     window: &'a ResolvedWindow,
@@ -223,6 +223,8 @@ fn add_order<'a>(
     requires { All (IsTableOrder (live_rows set.old)) orders.old.items }
     ensures orders { OnOk result (All (IsTableOrder (live_rows set.old)) orders.new.items) }
     ensures few { length orders.old.items ≤ 4 → OnOk result (length orders.new.items ≤ 4) }
+    ensures more { OnOk result (length orders.old.items ≤ length orders.new.items) }
+    ensures idle { OnOk result (length orders.new.items ≡ length orders.old.items → set.new ≡ set.old) }
     ensures same { Becomes set.old set.old.view set.new }
 {
     if is_served(orders, window) {
@@ -238,11 +240,11 @@ fn add_order<'a>(
     kept_rows_stay_in_order();
     kept_rows_differ();
     let rows = set.ordered(&keys)?;
-    let differ = keys_differ(window, &keys, &rows, set)?;
+    let unique_keys = keys_differ(window, &keys, &rows, set)?;
     orders.push(TableOrder {
         window,
         rows,
-        differ,
+        unique_keys,
     })?;
     Ok(())
 }
@@ -255,6 +257,7 @@ fn window_orders<'a>(
 ) -> Result<Vec<TableOrder<'a>>, AllocError>
     ensures orders { IfOk result (λ orders. All (IsTableOrder (live_rows set.old)) orders.items) }
     ensures few { IfOk result (λ orders. length orders.items ≤ 4) }
+    ensures idle { IfOk result (λ orders. length orders.items ≡ 0 → set.new ≡ set.old) }
     ensures same { Becomes set.old set.old.view set.new }
 {
     let width = set.schema().columns().len();
@@ -298,7 +301,7 @@ pub(crate) fn asks_for_orders(select: &Selection) -> bool
 }
 
 // The table's rows in the order of ORDER BY, where it is one by columns and taken from runs, behind so many orders of windows
-// that are.
+// that are. Where it is not, the set stays as it is.
 fn key_order(
     alloc: Global,
     select: &Selection,
@@ -310,6 +313,7 @@ fn key_order(
     ensures found { IfOk result (λ found. asks_for_order select.now ≡ true → taken < 4
         → All (IsColumnKey (length set.old.schema.columns)) select.now.keys.items → is_some found ≡ true) }
     ensures few { 4 ≤ taken → IfOk result (λ found. found ≡ None) }
+    ensures idle { IfOk result (λ found. found ≡ None → set.new ≡ set.old) }
     ensures same { Becomes set.old set.old.view set.new }
 {
     if is_left_out(select, taken) {
@@ -327,8 +331,8 @@ fn key_order(
 
 /// The table's rows in the orders that a SELECT over it asks for, where these are by columns and the rows are not grouped: in
 /// four of them at most, those of its windows first. They come from the runs that the segments keep; runs that are missing are
-/// made, and orders that are merged of them are kept. Of a SELECT that asks for none the set stays as it is. The one error is that
-/// memory was refused.
+/// made, and orders that are merged of them are kept. Where there is no order by columns, or the SELECT asks for none, the set stays
+/// as it is. The one error is that memory was refused.
 pub fn table_orders<'a>(
     alloc: Global,
     select: &'a Selection,
@@ -340,6 +344,7 @@ pub fn table_orders<'a>(
         → length t.windows.items < 4 → All (IsColumnKey (length set.old.schema.columns)) select.entry.now.keys.items
         → is_some t.keys ≡ true) }
     ensures idle { are_orders_asked select.entry.now ≡ false → set.new ≡ set.old }
+    ensures none { IfOk result (λ t. length t.windows.items ≡ 0 → t.keys ≡ None → set.new ≡ set.old) }
     ensures same { Becomes set.old set.old.view set.new }
 {
     if !asks_for_orders(select) {

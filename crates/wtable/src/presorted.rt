@@ -1,5 +1,5 @@
 //! Orders of the kept rows that orders of all rows of the table give.
-ghost use Rattle.std.specs.Prelude.{◌≡◌, ◌<◌, ℕ, [], All, IfNone, IfOk, IfSome, List, None, Ok, Option, length};
+ghost use Rattle.std.specs.Prelude.{◌≡◌, ◌<◌, ℕ, [], All, IfNone, IfOk, IfSome, List, None, Ok, Option, length, map, reverse};
 ghost use Rattle.std.specs.Prelude.{option_map, slice_index_or};
 ghost use Rattle.std.specs.List.{list_any, remove};
 ghost use Rattle.std.specs.Option.{is_some};
@@ -9,7 +9,7 @@ ghost use Rattle.wrows.specs.Columns.{Row};
 ghost use Rattle.wrows.specs.Laid.{rows_seen};
 ghost use Rattle.wcalls.specs.PresortedRows.{IsPresorted};
 ghost use Rattle.wtable.specs.TableOrders.{AreTableOrders, ArePresorted, ArePresortedOf, IsNumbered};
-ghost use Rattle.wtable.specs.TableOrders.{IsTableOrder, IsPresortedOf, presorted_numbers, presorts};
+ghost use Rattle.wtable.specs.TableOrders.{IsTableOrder, IsPresortedOf, presorted_numbers, presorts, told_of, told_presorted};
 
 use crate::numbered_rows::{NumberedRows, presorted_numbers};
 use crate::orders::{TableOrder, TableOrders};
@@ -55,20 +55,22 @@ fn presorted_window<'a>(
     order: TableOrder<'a>,
     kept: &NumberedRows,
 ) -> Result<PresortedOrder<'a>, AllocError>
-    ensures { (condition : Option Formula) (segments : List (List Row)) → IsNumbered condition segments kept.now
+    ensures order { (condition : Option Formula) (segments : List (List Row)) → IsNumbered condition segments kept.now
         → IsTableOrder segments order.entry → IfOk result (IsPresortedOf (rows_seen kept.now.rows.items)) }
+    ensures told { IfOk result (λ presorted. told_presorted presorted ≡ told_of kept.now order.entry) }
 {
     let numbers = presorted_numbers(alloc, &order.rows, kept)?;
     Ok(PresortedOrder {
         window: order.window,
         presorted: Presorted {
             numbers,
-            differ: order.differ,
+            unique_keys: order.unique_keys,
         },
     })
 }
 
-// The numbers of the kept rows in the orders of windows that are orders of all rows, which are let go one after another.
+// The numbers of the kept rows in the orders of windows that are orders of all rows, the last of these first. They are let go one
+// after another.
 fn presorted_windows<'a>(
     alloc: Global,
     orders: Vec<TableOrder<'a>>,
@@ -77,7 +79,8 @@ fn presorted_windows<'a>(
     ensures orders { (condition : Option Formula) (segments : List (List Row)) → IsNumbered condition segments kept.now
         → All (IsTableOrder segments) orders.entry.items
         → IfOk result (λ presorted. ArePresortedOf (rows_seen kept.now.rows.items) presorted.items) }
-    ensures each { IfOk result (λ presorted. length presorted.items ≡ length orders.entry.items) }
+    ensures told { IfOk result (λ presorted. map told_presorted presorted.items
+        ≡ reverse (map (told_of kept.now) orders.entry.items)) }
 {
     let mut left = orders;
     let mut presorted = Vec::with_capacity(alloc, left.len())?;
@@ -105,8 +108,8 @@ fn presorted_keys(
     }
 }
 
-/// The numbers of the kept rows in each of some orders of all rows, which are let go one after another. The one error is that memory was
-/// refused.
+/// The numbers of the kept rows in each of some orders of all rows, which are let go one after another: those of windows with the last
+/// of them first. The one error is that memory was refused.
 pub fn presorted_orders<'a>(
     alloc: Global,
     orders: TableOrders<'a>,
@@ -116,6 +119,8 @@ pub fn presorted_orders<'a>(
         → IsNumbered condition segments kept.now → AreTableOrders segments keys orders.entry
         → IfOk result (ArePresorted (rows_seen kept.now.rows.items) keys) }
     ensures windows { IfOk result (λ t. length t.windows.items ≡ length orders.entry.windows.items) }
+    ensures told { IfOk result (λ t. map told_presorted t.windows.items
+        ≡ reverse (map (told_of kept.now) orders.entry.windows.items)) }
     ensures keys { IfOk result (λ t. option_map (λ numbers. numbers.items) t.keys
         ≡ option_map (λ rows. presorted_numbers kept.now rows.items) orders.entry.keys) }
 {

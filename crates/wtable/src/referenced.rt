@@ -54,7 +54,8 @@ fn each_referenced<'a>(
 }
 
 /// The rows of live segments that references tell, in their order. They stay where they lie; one of no row of a live segment
-/// tells a row without values. `TooManyRows` where they are more than 2,147,483,647, `NoMemory` where memory is refused.
+/// tells a row without values. `TooManyRows` where they are more than 2,147,483,647, `NoMemory` where memory is refused, or of a set
+/// whose cells are not made (`SegmentSet::make`).
 pub fn referenced_rows<'a>(
     alloc: Global,
     set: &'a SegmentSet,

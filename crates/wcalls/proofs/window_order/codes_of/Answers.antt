@@ -7,8 +7,8 @@ use Rattle.wrows.specs.CodedRows.{AreRowCodes, code_at}
 use Rattle.wcalls.proofs.CodeFacts.{apart_by_codes}
 use Rattle.wcalls.proofs.window_order.codes_of.Goals as goal
 
-pub returns-in_ok-picked-in-Some : goal.returns-in_ok-picked-in-Some
-returns-in_ok-picked-in-Some c = λ keys lists h.
+pub returns-in_ok-picked-in-Some-clause-apart : goal.returns-in_ok-picked-in-Some-clause-apart
+returns-in_ok-picked-in-Some-clause-apart c = λ keys lists h.
     let rows = c.args.rows.now in
     let codes = c.in-Some.codes.items in
     let answer : AreRowCodes keys lists codes = rw c.in-Some.is at h in

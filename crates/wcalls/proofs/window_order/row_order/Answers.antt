@@ -41,8 +41,8 @@ coded_order-requires c =
     subst (AreRowCodes ko K) (sym c.deref-in-Some-Some.ensures.value) (rw c.in-Some-Some.is-1 at c.in_ok-key_codes.ensures.codes) in
     omega (arith, firsts.len, seconds.len, c.requires)
 
-pub returns-in-Some-Some : goal.returns-in-Some-Some
-returns-in-Some-Some c =
+pub returns-in-Some-Some-clause-order : goal.returns-in-Some-Some-clause-order
+returns-in-Some-Some-clause-order c =
     let vo = c.args.values.now.orders.items in
     let ko = c.args.keys.now.orders.items in
     let V = lists_in c.args.values.now.lists in
@@ -51,10 +51,10 @@ returns-in-Some-Some c =
     subst (AreRowCodes vo V) (sym c.deref.ensures.value) (rw c.in-Some-Some.is-0 at c.in_ok-value_codes.ensures.codes) in
     let seconds : AreRowCodes ko K c.deref-in-Some-Some.result.now =
     subst (AreRowCodes ko K) (sym c.deref-in-Some-Some.ensures.value) (rw c.in-Some-Some.is-1 at c.in_ok-key_codes.ensures.codes) in
-    subst (λ count. IsRowOrder vo V ko K count c.in_ok-order.order) seconds.len (c.in_ok-order.ensures vo ko V K firsts seconds)
+    subst (λ count. IsRowOrder vo V ko K count c.in_ok-order.order) seconds.len (c.in_ok-order.ensures.order vo ko V K firsts seconds)
 
-pub returns : goal.returns
-returns c =
+pub returns-clause-order : goal.returns-clause-order
+returns-clause-order c =
     let vo = c.args.values.now.orders.items in
     let ko = c.args.keys.now.orders.items in
     let V = lists_in c.args.values.now.lists in
@@ -65,7 +65,13 @@ returns c =
       len = c.in_ok-rows.ensures.len ∙ c.in_ok-by_key.ensures.len;
       value_codes = subst (λ l. IfSome c.in_ok-value_codes-2.value_codes
           (λ codes. TellApart (keys_cmp vo) (map (key_at V) l) codes.items)) c.deref-2.ensures.value
-          (c.in_ok-value_codes-2.ensures vo V c.in_ok-value_codes.ensures.codes);
+          (c.in_ok-value_codes-2.ensures.apart vo V c.in_ok-value_codes.ensures.codes);
       key_codes = subst (λ l. IfSome c.in_ok-key_codes-2.key_codes (λ codes. TellApart (keys_cmp ko) (map (key_at K) l)
-          codes.items)) c.deref-3.ensures.value (c.in_ok-key_codes-2.ensures ko K c.in_ok-key_codes.ensures.codes);
+          codes.items)) c.deref-3.ensures.value (c.in_ok-key_codes-2.ensures.apart ko K c.in_ok-key_codes.ensures.codes);
     }
+
+pub returns-clause-values : goal.returns-clause-values
+returns-clause-values c = λ one few. c.in_ok-value_codes-2.ensures.found ∙ c.in_ok-value_codes.ensures.found one few
+
+pub returns-clause-keys : goal.returns-clause-keys
+returns-clause-keys c = λ one few. c.in_ok-key_codes-2.ensures.found ∙ c.in_ok-key_codes.ensures.found one few

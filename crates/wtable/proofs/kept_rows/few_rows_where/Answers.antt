@@ -1,4 +1,4 @@
-use Rattle.std.proofs.Common.{List, Vec, Global, ap, arith}
+use Rattle.std.proofs.Common.{◌≡◌, List, Vec, Global, length, ap, arith}
 use Rattle.std.proofs.lemmas.List.{length-map}
 use Rattle.std.specs.Borrow.{Bor}
 use Rattle.std.specs.List.{list_any}
@@ -15,9 +15,14 @@ use Rattle.wtable.proofs.kept_rows.few_rows_where.Goals as goal
 
 pub segments-init : goal.segments-init
 segments-init c =
-    none_held (formula c.args.condition.now.expr.now) (rows_of_set c.args.set.now) (rows_seen c.new-held.result.items)
-    c.lives-segment-items.result _ (ap rows_seen c.new-held.ensures.items) c.into_iter-segment-iterator.ensures.into_iter_gives
-    (set_rows c.args.set.now c.lives-segment-items.result c.lives-segment-items.ensures)
+    let none : length c.new-held.result.items ≡ 0 = ap length c.new-held.ensures.items in
+    record {
+      so_far =
+          none_held (formula c.args.condition.now.expr.now) (rows_of_set c.args.set.now) (rows_seen c.new-held.result.items)
+          c.lives-segment-items.result _ (ap rows_seen c.new-held.ensures.items) c.into_iter-segment-iterator.ensures.into_iter_gives
+          (set_rows c.args.set.now c.lives-segment-items.result c.lives-segment-items.ensures);
+      few = omega (arith, none);
+    }
 
 pub returns-in_err-all-clause-rows : goal.returns-in_err-all-clause-rows
 returns-in_err-all-clause-rows c =
@@ -25,23 +30,28 @@ returns-in_err-all-clause-rows c =
     let t = formula c.args.condition.now.expr.now in
     let view : Vec (Bor (List Value)) Global → List Row = λ held. rows_seen held.items in
     rw (p.1, p.2) (segment_refused t (rows_of_set c.args.set.now) (rows_seen c.segments.held.items) _ _ _ c.in-Some.ensures.steps
-    c.segments.invariant view c.in_err-all.field-0.0 c.in_err-all.ensures.gives)
+    c.segments.invariant.so_far view c.in_err-all.field-0.0 c.in_err-all.ensures.gives)
 
 pub segments-preserved : goal.segments-preserved
 segments-preserved c =
     let t = formula c.args.condition.now.expr.now in
-    segment_held t (rows_of_set c.args.set.now) (rows_seen c.segments.held.items) _ _ _
-    c.in-Some.ensures.steps c.segments.invariant _ (ok_is_false (list_any (is_out_of_range t) c.in-Some.segment.now.content.rows) tt tt
-    (at_end c.in_ok-all.all _ c.in_ok-all.ensures.gives c.if-not-all.false)) (c.in_ok-all.ensures.added c.if-not-all.false)
+    record {
+      so_far =
+          segment_held t (rows_of_set c.args.set.now) (rows_seen c.segments.held.items) _ _ _
+          c.in-Some.ensures.steps c.segments.invariant.so_far _
+          (ok_is_false (list_any (is_out_of_range t) c.in-Some.segment.now.content.rows) tt tt
+          (at_end c.in_ok-all.all _ c.in_ok-all.ensures.gives c.if-not-all.false)) (c.in_ok-all.ensures.added c.if-not-all.false);
+      few = c.in_ok-all.ensures.few c.segments.invariant.few;
+    }
 
 pub returns-clause-rows : goal.returns-clause-rows
 returns-clause-rows c =
     all_held (formula c.args.condition.now.expr.now) (rows_of_set c.args.set.now) (rows_seen c.segments.held.items) _
-    c.in-None.ensures.steps.0 c.segments.invariant
+    c.in-None.ensures.steps.0 c.segments.invariant.so_far
 
 pub returns-then-not-all-clause-given : goal.returns-then-not-all-clause-given
 returns-then-not-all-clause-given c =
     let t = formula c.args.condition.now.expr.now in
     let held = c.segments.held.items in
-    segment_many t (rows_of_set c.args.set.now) (rows_seen held) _ _ _ c.in-Some.ensures.steps c.segments.invariant c.args.most
+    segment_many t (rows_of_set c.args.set.now) (rows_seen held) _ _ _ c.in-Some.ensures.steps c.segments.invariant.so_far c.args.most
     (omega (arith, c.in_ok-all.ensures.stopped c.if-not-all.true, length-map held row_seen))

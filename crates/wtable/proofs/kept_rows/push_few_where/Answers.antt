@@ -5,7 +5,7 @@ use Rattle.wplan.specs.Formula.{formula}
 use Rattle.wrows.specs.Columns.{Row, holds_on, is_out_of_range}
 use Rattle.wrows.specs.Laid.{row_seen, rows_seen}
 use Rattle.wrows.proofs.RowFacts.{ok_is_false}
-use Rattle.wtable.proofs.HeldFacts.{held_more, held_part, held_whole, in_range_more, none_at_fault, row_refused}
+use Rattle.wtable.proofs.HeldFacts.{held_long, held_more, held_part, held_whole, in_range_more, none_at_fault, row_refused}
 use Rattle.wtable.proofs.kept_rows.push_few_where.Goals as goal
 
 pub returns-in_err-push_where-clause-gives : goal.returns-in_err-push_where-clause-gives
@@ -27,6 +27,14 @@ loop-row-preserved c =
           c.loop-row.invariant.in_range (ok_is_false _ _ _ c.in_ok-push_where.ensures.gives);
       so_far = held_more (holds_on t) stored (rows_seen c.args.held.now.items) (rows_seen c.loop-row.held.items) _
           c.loop-row.row (row_seen c.row.result) within c.row.ensures.values c.loop-row.invariant.so_far c.in_ok-push_where.ensures.added;
+      few = λ fits. omega (
+        arith,
+        c.if-len-most.false,
+        length-map c.loop-row.held.items row_seen,
+        length-map c.push_where.new.held.items row_seen,
+        held_long (holds_on t (row_seen c.row.result)) (rows_seen c.loop-row.held.items) (rows_seen c.push_where.new.held.items)
+            (row_seen c.row.result) c.in_ok-push_where.ensures.added,
+      );
     }
 
 pub returns-clause-gives : goal.returns-clause-gives

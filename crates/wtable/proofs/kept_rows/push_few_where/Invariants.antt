@@ -1,4 +1,4 @@
-use Rattle.std.proofs.Common.{◌≡◌, ◌++◌, false, filter, take}
+use Rattle.std.proofs.Common.{◌≡◌, ◌≤◌, ◌+◌, ◌++◌, false, filter, length, take}
 use Rattle.std.specs.List.{list_any}
 use Rattle.wplan.specs.Formula.{formula}
 use Rattle.wrows.specs.Columns.{holds_on, is_out_of_range}
@@ -10,4 +10,5 @@ invariant-loop-row l = record {
   in_range : list_any (is_out_of_range (formula l.condition.expr.now)) (take l.row l.segment.rows) ≡ false;
   so_far : rows_seen l.held.items ≡ rows_seen l.fn.held.items ++ filter (holds_on (formula l.condition.expr.now))
       (take l.row l.segment.rows);
+  few : length l.fn.held.items ≤ l.most + 1 → length l.held.items ≤ l.most + 1;
 }

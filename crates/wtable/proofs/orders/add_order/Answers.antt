@@ -1,4 +1,5 @@
-use Rattle.std.proofs.Common.{◌≡◌, true, Vec, Global, ◌∷◌, ◌++◌, [], filter, length, subst, sym, ap, ◌∙◌}
+use Rattle.std.proofs.Common.{◌≡◌, true, Vec, Global, ◌∷◌, ◌++◌, [], filter, length, subst, sym, ap, ◌∙◌, ◌+◌, arith}
+use Rattle.std.proofs.lemmas.List.{length_push}
 use Rattle.std.proofs.lemmas.List.Elements.{All-append, All-cons, All-nil, All-same}
 use Rattle.wvalues.specs.declared.key.SortKey.{SortKey}
 use Rattle.wplan.specs.Plans.{window_plan}
@@ -31,8 +32,8 @@ returns-clause-orders c =
     let list : found ≡ refs_by keys segments = c.in_ok-rows.ensures.list ∙ ap (λ k. refs_by k segments)
     c.deref-2.ensures.value in
     let stay : live_rows c.ordered.new.self ≡ segments = live_same s c.ordered.new.self c.in_ok-rows.ensures.same in
-    let told = c.in_ok-differ.ensures in
-    let differ : c.in_ok-differ.differ ≡ true → AllDiffer keys (joined segments) = λ known.
+    let told = c.in_ok-unique_keys.ensures in
+    let differ : c.in_ok-unique_keys.unique_keys ≡ true → AllDiffer keys (joined segments) = λ known.
     subst (λ k. AllDiffer k (joined segments)) c.deref-3.ensures.value
     (subst (λ l. AllDiffer c.deref-3.result.now (joined l)) stay (told.differ known)) in
     All-same (IsTableOrder segments) c.push.new.self.items (c.args.orders.now.items ++ _ ∷ []) c.in_ok-push.ensures.items
@@ -43,3 +44,9 @@ returns-clause-orders c =
       differ = λ known holds. are.differ (told.whole known) (filter holds (joined segments))
           (c.kept_rows_differ.ensures holds keys (joined segments) (differ known));
     }) (All-nil (IsTableOrder segments))))
+
+pub returns-clause-idle : goal.returns-clause-idle
+returns-clause-idle c = λ same.
+    let longer : length c.push.new.self.items ≡ length c.args.orders.now.items + 1 = ap length c.in_ok-push.ensures.items
+    ∙ length_push c.args.orders.now.items _ in
+    absurd (omega (arith, same, longer))

@@ -1,4 +1,4 @@
-use Rattle.std.proofs.Common.{List, map, subst}
+use Rattle.std.proofs.Common.{List, map, subst, ◌∙◌}
 use Rattle.std.specs.Prelude.{IfSome}
 use Rattle.wvalues.specs.Meaning.{Meaning}
 use Rattle.wplan.specs.Plans.{key_plan}
@@ -15,3 +15,6 @@ returns-clause-orders c =
           → IsOrderFor segments (by_keys plans columns) refs.items)) (live_same c.args.set.now c.window_orders.new.set
           c.in_ok-windows.ensures.same) c.in_ok-keys.ensures.order;
     }
+
+pub returns-clause-none : goal.returns-clause-none
+returns-clause-none c = λ none empty. c.in_ok-keys.ensures.idle empty ∙ c.in_ok-windows.ensures.idle none

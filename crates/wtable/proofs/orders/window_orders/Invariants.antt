@@ -1,4 +1,4 @@
-use Rattle.std.proofs.Common.{◌≤◌, length}
+use Rattle.std.proofs.Common.{◌≡◌, ◌≤◌, length}
 use Rattle.std.specs.Prelude.{All}
 use Rattle.wset.specs.Running.{live_rows}
 use Rattle.wset.specs.Sets.{Becomes}
@@ -9,5 +9,6 @@ abbrev pub invariant-loop-window : goal.invariant-loop-window
 invariant-loop-window l = record {
   orders : All (IsTableOrder (live_rows l.fn.set)) l.orders.items;
   few : length l.orders.items ≤ 4;
+  idle : length l.orders.items ≡ 0 → l.set ≡ l.fn.set;
   same : Becomes l.fn.set l.fn.set.view l.set;
 }

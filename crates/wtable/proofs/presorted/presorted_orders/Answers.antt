@@ -1,11 +1,12 @@
-use Rattle.std.proofs.Common.{◌≡◌, List, Option, Some, None, Vec, ℕ, Global, Ok, sym, ap, ◌∙◌}
+use Rattle.std.proofs.Common.{◌≡◌, List, length, map, Option, Some, None, Vec, ℕ, Global, Ok, sym, ap, ◌∙◌}
 use Rattle.std.specs.Prelude.{IfSome, option_map}
+use Rattle.std.proofs.lemmas.List.{length-map, length-reverse}
 use Rattle.wvalues.specs.Meaning.{Meaning}
 use Rattle.wplan.specs.Plans.{KeyPlan}
 use Rattle.wrows.specs.Columns.{Row}
 use Rattle.wrows.specs.Laid.{rows_seen}
 use Rattle.wruns.specs.declared.refs.RowRef.{RowRef}
-use Rattle.wtable.specs.TableOrders.{IsOrderFor, RowOrder, by_keys, presorted_numbers}
+use Rattle.wtable.specs.TableOrders.{IsOrderFor, RowOrder, by_keys, presorted_numbers, told_of, told_presorted}
 use Rattle.wtable.proofs.NumberFacts.{order_presorted}
 use Rattle.wtable.proofs.presorted.presorted_orders.Goals as goal
 
@@ -29,3 +30,11 @@ returns-clause-orders c = λ condition segments plans is are.
       keys = keys_of segments plans (rows_seen kept.rows.items) (presorted_numbers kept) c.in_ok-keys.keys
           c.args.orders.keys (order_presorted condition segments kept is) c.in_ok-keys.ensures are.keys;
     }
+
+pub returns-clause-windows : goal.returns-clause-windows
+returns-clause-windows c =
+    let told = told_of c.args.kept.now in
+    let made = c.in_ok-windows.windows.items in
+    let orders = c.args.orders.windows.items in
+    sym (length-map made told_presorted) ∙ ap length c.in_ok-windows.ensures.told ∙ length-reverse (map told orders)
+    ∙ length-map orders told

@@ -1,15 +1,15 @@
-use Rattle.std.proofs.Common.{◌≡◌, false, length, subst, ap, ◌∙◌, List, arith, rules}
+use Rattle.std.proofs.Common.{◌≡◌, false, not, length, subst, ap, ◌∙◌, List, arith, rules}
 use Rattle.std.specs.Prelude.{◌≤◌, ◌^◌, IfSome}
 use Rattle.wvalues.specs.declared.key.SortKey.{SortKey}
 use Rattle.wvalues.specs.Meaning.{Meaning}
-use Rattle.wrows.specs.CodedRows.{key_column, key_of, values_seen, AreCodes}
+use Rattle.wrows.specs.CodedRows.{key_column, key_of, leads_with_text, values_seen, AreCodes}
 use Rattle.wrows.proofs.RowFacts.{same_at}
 use Rattle.wcalls.specs.Listed.{lists_in}
-use Rattle.wcalls.proofs.ListFacts.{one_key_found}
+use Rattle.wcalls.proofs.ListFacts.{found_just, one_key_found}
 use Rattle.wcalls.proofs.row_keys.RowKeys.number_codes.Goals as goal
 
-pub returns : goal.returns
-returns c =
+pub returns-clause-codes : goal.returns-clause-codes
+returns-clause-codes c =
     let keys = c.args.self.now in
     let orders = keys.orders.items in
     let found = c.in_ok-found.found in
@@ -22,3 +22,10 @@ returns c =
     let P : SortKey → List Meaning → Type 0 = λ k values. IfSome found (λ codes. AreCodes k values codes.items) in
     one_key_found keys.lists orders found keys.wide one few
     (subst (λ k. P k column) key (subst (λ values. P c.index.result.now values) seen c.in_ok-found.ensures.codes))
+
+pub returns-clause-found : goal.returns-clause-found
+returns-clause-found c = λ one few.
+    let seen : values_seen c.deref.result.now ≡ key_column 0 (lists_in c.args.self.now.lists)
+    = ap values_seen c.deref.ensures.value ∙ c.in_ok-column.ensures in
+    found_just c.in_ok-found.found (leads_with_text (values_seen c.deref.result.now)) c.in_ok-found.ensures.numbers
+    ∙ ap (λ values. not (leads_with_text values)) seen
