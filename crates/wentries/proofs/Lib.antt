@@ -9,3 +9,4 @@ pub mod Lows
 pub mod Sizes
 mod Origins
 mod DealtFacts
+pub mod AddedFacts

@@ -1,6 +1,7 @@
 -- The segments of live names that entries hold, with their runs.
-use Rattle.std.specs.Prelude.{⊤, List, [], ◌∷◌, map, Option, None, Some}
+use Rattle.std.specs.Prelude.{◌≡◌, ◌⊎◌, ⊤, List, [], ◌∷◌, ◌++◌, map, Option, None, Some}
 use Rattle.std.specs.List.{IsAmong, filter_map}
+use Rattle.circular_buffer.specs.Buffer.{keep_last}
 use Rattle.wvalues.specs.declared.key.SortKey.{SortKey}
 use Rattle.wvalues.specs.Names.{NameParts}
 use Rattle.wvalues.specs.Meaning.{Meaning}
@@ -35,6 +36,28 @@ rows_held (held.Live kept) = kept.content.rows ∷ []
 rows_held held.Disputed = []
 rows_held held.Retired = []
 rows_held held.Floor = []
+
+-- the keys of the runs of each live segment
+abbrev pub orders_in : List Entry → List (List (List SortKey))
+orders_in es = map (λ k. k.1.orders) (kept_in es)
+
+-- the keys of the runs of a segment that is held
+abbrev pub orders_held : Held → List (List (List SortKey))
+orders_held (held.Live kept) = kept.orders ∷ []
+orders_held held.Disputed = []
+orders_held held.Retired = []
+orders_held held.Floor = []
+
+-- a segment's runs are as they were, or the one of these keys, which was not there, is the last, and of five the first is let go
+abbrev pub IsAdded : List SortKey → List (List SortKey) → List (List SortKey) → Type 0
+IsAdded keys old new = (new ≡ old) ⊎ ((IsAmong old keys → ⊥) × (new ≡ keep_last 4 (old ++ keys ∷ [])))
+
+-- so it is of each of some segments
+abbrev pub AreAdded : List SortKey → List (List (List SortKey)) → List (List (List SortKey)) → Type 0
+AreAdded keys [] [] = ⊤
+AreAdded keys [] (new ∷ news) = ⊥
+AreAdded keys (old ∷ olds) [] = ⊥
+AreAdded keys (old ∷ olds) (new ∷ news) = IsAdded keys old new × AreAdded keys olds news
 
 -- what is held, whatever runs are kept
 abbrev pub plain_held : Held → Option (Option (Option Content))

@@ -11,7 +11,7 @@ ghost use Rattle.wentries.specs.Knowledge.{Known as TheKnown, Floor, first_of as
 ghost use Rattle.wentries.specs.Holding.{IsHeldBy, known_of};
 ghost use Rattle.wentries.specs.Entries.{AreBelow, AreOriginsBelow, AllHeldBy, AreSettled, IsRising, above_floor};
 ghost use Rattle.wentries.specs.Entries.{first_from, known_entries, listing_of, AreBehind};
-ghost use Rattle.wentries.specs.Keeping.{BeginWithRuns, HeldHasRun, kept_in, plain_block, rows_in};
+ghost use Rattle.wentries.specs.Keeping.{AreAdded, BeginWithRuns, HeldHasRun, kept_in, orders_in, plain_block, rows_in};
 ghost use Rattle.wentries.specs.Blocks.{AreFilled, HasRoom, IsGrown, IsHome, IsOriginHome, first_of, flat, half, halved, longest, trimmed};
 ghost use Rattle.wentries.specs.declared.entries.Entry.{Entry as HeldEntry};
 
@@ -131,6 +131,7 @@ impl Block {
     fn make_runs(&mut self, alloc: Global, keys: &[SortKey]) -> Result<(), AllocError>
         ensures plain { plain_block self.new ≡ plain_block self.old }
         ensures has { OnOk result (All (λ e. HeldHasRun keys.now e.held) self.new) }
+        ensures adds { AreAdded keys.now (orders_in self.old) (orders_in self.new) }
     {
         make_runs(alloc, &mut self.entries, keys)?;
         Ok(())
@@ -146,6 +147,7 @@ impl Block {
         requires { BeginWithRuns keys.now (rows_in self.old) runs.now }
         ensures plain { plain_block self.new ≡ plain_block self.old }
         ensures has { OnOk result (All (λ e. HeldHasRun keys.now e.held) self.new) }
+        ensures adds { AreAdded keys.now (orders_in self.old) (orders_in self.new) }
         ensures left { IfOk result (λ left. left.now ≡ drop (length (rows_in self.old)) runs.now) }
     {
         let left = keep_runs(alloc, &mut self.entries, keys, runs)?;
@@ -572,6 +574,7 @@ pub fn count_after(blocks: &[Block], count: usize, name: &Name) -> Result<usize,
 pub fn make_in(alloc: Global, blocks: &mut Vec<Block>, keys: &[SortKey]) -> Result<(), AllocError>
     ensures plain { map plain_block blocks.new.items ≡ map plain_block blocks.old.items }
     ensures has { OnOk result (All (All (λ e. HeldHasRun keys.now e.held)) blocks.new.items) }
+    ensures adds { AreAdded keys.now (orders_in (flat blocks.old.items)) (orders_in (flat blocks.new.items)) }
 {
     for i in 0..blocks.len() {
         blocks[i].make_runs(alloc, keys)?;
@@ -589,6 +592,7 @@ pub fn keep_in(
     requires { AreRunsOf keys.now (rows_in (flat blocks.old.items)) runs.now }
     ensures plain { map plain_block blocks.new.items ≡ map plain_block blocks.old.items }
     ensures has { OnOk result (All (All (λ e. HeldHasRun keys.now e.held)) blocks.new.items) }
+    ensures adds { AreAdded keys.now (orders_in (flat blocks.old.items)) (orders_in (flat blocks.new.items)) }
 {
     let mut left = runs;
     for i in 0..blocks.len() {

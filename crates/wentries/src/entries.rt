@@ -9,7 +9,7 @@ ghost use Rattle.wsegment.specs.Declaration.{Declaration};
 ghost use Rattle.wvalues.specs.Names.{name_cmp};
 ghost use Rattle.wentries.specs.Knowledge.{Known as TheKnown, Floor, first_of as first_number, floor_number, is_above, is_over, join_known};
 ghost use Rattle.wentries.specs.Holding.{IsHeldBy, known_of};
-ghost use Rattle.wentries.specs.Keeping.{BeginWithRuns, HeldHasRun, kept_in, plain_block, rows_in};
+ghost use Rattle.wentries.specs.Keeping.{AreAdded, BeginWithRuns, HeldHasRun, kept_in, orders_in, plain_block, rows_in};
 ghost use Rattle.wentries.specs.Entries.{AllHeldBy, IsGap, IsPlace, IsRising, above_floor, first_from};
 ghost use Rattle.wentries.specs.Entries.{known_entries, known_entry, listing_of};
 
@@ -218,6 +218,7 @@ pub(crate) fn make_runs(
 ) -> Result<(), AllocError>
     ensures plain { plain_block entries.new.items ≡ plain_block entries.old.items }
     ensures has { OnOk result (All (λ e. HeldHasRun keys.now e.held) entries.new.items) }
+    ensures adds { AreAdded keys.now (orders_in entries.old.items) (orders_in entries.new.items) }
 {
     for i in 0..entries.len() {
         let entry = &mut entries[i];
@@ -236,6 +237,7 @@ pub(crate) fn keep_runs<'a>(
     requires { BeginWithRuns keys.now (rows_in entries.old.items) runs.now }
     ensures plain { plain_block entries.new.items ≡ plain_block entries.old.items }
     ensures has { OnOk result (All (λ e. HeldHasRun keys.now e.held) entries.new.items) }
+    ensures adds { AreAdded keys.now (orders_in entries.old.items) (orders_in entries.new.items) }
     ensures left { IfOk result (λ left. left.now ≡ drop (length (rows_in entries.old.items)) runs.now) }
 {
     let mut left = runs;

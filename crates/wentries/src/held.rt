@@ -1,6 +1,6 @@
 //! What a set holds of a name.
 ghost use Rattle.std.specs.Prelude.{◌≡◌, false, drop, length, IfOk, OnOk};
-ghost use Rattle.wentries.specs.Keeping.{BeginWithRuns, HeldHasRun, plain_held, rows_held};
+ghost use Rattle.wentries.specs.Keeping.{AreAdded, BeginWithRuns, HeldHasRun, orders_held, plain_held, rows_held};
 ghost use Rattle.wentries.specs.Knowledge.{Live, join_known};
 ghost use Rattle.wentries.specs.Holding.{IsReadBy, status_of_known, told_of, IsHeldBy, known_of, row_count_of};
 ghost use Rattle.wsegment.specs.Declaration.{Declaration};
@@ -86,6 +86,7 @@ impl Held {
     pub(crate) fn make(&mut self, alloc: Global, keys: &[SortKey]) -> Result<(), AllocError>
         ensures plain { plain_held self.new ≡ plain_held self.old }
         ensures has { OnOk result (HeldHasRun keys.now self.new) }
+        ensures adds { AreAdded keys.now (orders_held self.old) (orders_held self.new) }
     {
         match self {
             Held::Live(kept) => kept.make(alloc, keys),
@@ -103,6 +104,7 @@ impl Held {
         requires { BeginWithRuns keys.now (rows_held self.old) runs.now }
         ensures plain { plain_held self.new ≡ plain_held self.old }
         ensures has { OnOk result (HeldHasRun keys.now self.new) }
+        ensures adds { AreAdded keys.now (orders_held self.old) (orders_held self.new) }
         ensures left { IfOk result (λ left. left.now ≡ drop (length (rows_held self.old)) runs.now) }
     {
         match self {

@@ -5,6 +5,7 @@ ghost use Rattle.circular_buffer.specs.Buffer.{keep_last};
 ghost use Rattle.wruns.specs.Dealing.{IsRunBy};
 ghost use Rattle.wruns.specs.Runs.{IsRunOf};
 ghost use Rattle.wentries.specs.Cells.{parts_of};
+ghost use Rattle.wentries.specs.Keeping.{IsAdded};
 
 use crate::judged_content::Cells;
 use std::alloc::{AllocError, Global};
@@ -132,6 +133,7 @@ impl Kept {
         ensures made { (IsAmong self.old.orders keys.now → ⊥)
             → OnOk result (self.new.orders ≡ keep_last 4 (self.old.orders ++ keys.now ∷ [])) }
         ensures has { OnOk result (IsAmong self.new.orders keys.now) }
+        ensures adds { IsAdded keys.now self.old.orders self.new.orders }
         ensures err { OnErr result (self.new ≡ self.old) }
     {
         if self.has(keys) {
@@ -169,6 +171,7 @@ impl Kept {
         ensures made { (IsAmong self.old.orders keys.now → ⊥)
             → OnOk result (self.new.orders ≡ keep_last 4 (self.old.orders ++ keys.now ∷ [])) }
         ensures has { OnOk result (IsAmong self.new.orders keys.now) }
+        ensures adds { IsAdded keys.now self.old.orders self.new.orders }
         ensures err { OnErr result (self.new ≡ self.old) }
     {
         if self.has(keys) {

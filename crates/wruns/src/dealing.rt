@@ -10,7 +10,7 @@ ghost use Rattle.wruns.specs.Lists.{ref};
 ghost use Rattle.wruns.specs.Refs.{refs, refs_by};
 ghost use Rattle.wruns.specs.Runs.{joined, run_of};
 
-use crate::key_columns::{CodedNumbers, Table, coded_order_of};
+use crate::key_columns::{CodedNumbers, Columnar, coded_order_of};
 use crate::merging::short_number;
 use crate::refs::RowRef;
 use crate::run::{KeyedRows, Run, grouped_run};
@@ -33,7 +33,7 @@ pub struct Dealt {
 
 // The rows of several segments by number: one segment after another.
 #[derive(Clone, Copy)]
-struct NumberedRows<'a> {
+struct JoinedRows<'a> {
     segments: &'a [&'a Segment],
     count: usize,
     null: &'a Value,
@@ -58,7 +58,7 @@ fn push_values<'a>(
     Ok(())
 }
 
-impl<'a> Table for NumberedRows<'a> {
+impl<'a> Columnar for JoinedRows<'a> {
     ghost rows = { λ t. joined (segment_rows t.segments.now) };
 
     fn count(&self) -> usize {
@@ -104,7 +104,7 @@ fn push_refs(segment: u32, count: usize, refs: &mut Vec<RowRef>) -> Result<(), A
 }
 
 // The rows of all segments by number.
-fn refs_by_number(alloc: Global, table: &NumberedRows) -> Result<Vec<RowRef>, AllocError>
+fn refs_by_number(alloc: Global, table: &JoinedRows) -> Result<Vec<RowRef>, AllocError>
     ensures { IfOk result (λ all. all.items ≡ refs (segment_rows table.now.segments.now)) }
 {
     let mut refs = Vec::with_capacity(alloc, table.count)?;
@@ -128,11 +128,7 @@ fn picked(alloc: Global, all: &[RowRef], numbers: &[u32]) -> Result<Vec<RowRef>,
 }
 
 // The rows of all segments in the order of their numbers.
-fn rows_in(
-    alloc: Global,
-    table: &NumberedRows,
-    numbers: Vec<u32>,
-) -> Result<Vec<RowRef>, AllocError>
+fn rows_in(alloc: Global, table: &JoinedRows, numbers: Vec<u32>) -> Result<Vec<RowRef>, AllocError>
     requires { All (λ i. i < table.now.count) numbers.items }
     ensures { IfOk result (λ rows. rows.items ≡ map (ref_at (refs (segment_rows table.now.segments.now))) numbers.items) }
 {
@@ -269,7 +265,7 @@ pub fn deal_runs(
     ensures rows { IfOk result (λ dealt. dealt.rows.items ≡ refs_by keys.now (segment_rows segments.now)) }
     ensures runs { IfOk result (λ dealt. AreRunsOf keys.now (segment_rows segments.now) dealt.runs.items) }
 {
-    let numbered = NumberedRows {
+    let numbered = JoinedRows {
         segments,
         count: row_count(segments)?,
         null: &Value::Null,

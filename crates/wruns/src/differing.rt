@@ -41,7 +41,7 @@ impl<'a> KeyedSegments<'a> {
         ensures { result ≡ keys_cmp self.now.keys.now (ref_keys self.now.keys.now (segment_rows self.now.segments.now) a.now)
             (ref_keys self.now.keys.now (segment_rows self.now.segments.now) b.now) }
     {
-        for (i, key) in self.keys.iter().enumerate() {
+        for key in self.keys {
             let order = compare(self.value(a, key.col), self.value(b, key.col), key);
             if order != Ordering::Equal {
                 return order;

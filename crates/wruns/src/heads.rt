@@ -6,7 +6,7 @@ ghost use Rattle.wframe.specs.Sorting.{first_or};
 ghost use Rattle.wruns.specs.Heads.{group_refs, groups_seen, head_at, head_row, heads_from, heads_of, IsHead};
 ghost use Rattle.wruns.specs.Merging.{rows_seen};
 
-use crate::key_columns::Table;
+use crate::key_columns::Columnar;
 use crate::merging::{short_number, value_of};
 use crate::refs::RowRef;
 use crate::run::Run;
@@ -32,7 +32,7 @@ pub(crate) struct HeadRows<'a> {
     ghost few: { length heads.now < 2 ^ 32 },
 }
 
-impl<'a> Table for HeadRows<'a> {
+impl<'a> Columnar for HeadRows<'a> {
     ghost rows = { λ t. map (head_row (rows_seen t.sources.now)) t.heads.now };
 
     fn count(&self) -> usize {

@@ -5,10 +5,7 @@ ghost use Rattle.std.specs.List.{IsAmong};
 ghost use Rattle.circular_buffer.specs.Buffer.{keep_last};
 ghost use Rattle.wvalues.specs.Meaning.{Meaning};
 ghost use Rattle.wruns.specs.Runs.{IsRunOf};
-ghost use Rattle.std.specs.Borrow.{sem};
-ghost use Rattle.std.specs.Io.BufRead.{Rests};
-ghost use Rattle.wruns.specs.contracts.kept_runs.KeptRuns.{the_row};
-ghost use Rattle.wruns.specs.KeptRuns.{LendsRun, keys_kept, run_values, runs_in, HasRoom};
+ghost use Rattle.wruns.specs.KeptRuns.{keys_kept, run_values, runs_in, HasRoom};
 
 use crate::run::{Run, sort_run};
 use crate::segment_run::SegmentRun;
@@ -173,30 +170,6 @@ impl KeptRuns {
             Some(run) => Some(SegmentRun::new(self.segment(), run)),
             None => None,
         }
-    }
-
-    // The run of these keys, where making it went well.
-    fn made(&self, keys: &[SortKey], outcome: Result<(), AllocError>) -> Result<&Run, AllocError>
-        requires { OnOk outcome (IsAmong self.now.orders keys.now) }
-        ensures run { IfOk result (λ run. (run.now.keys ≡ keys.now) × IsRunOf self.now.content.rows run.now) }
-        ensures ok { IsOk outcome ↔ IsOk result }
-    {
-        match outcome {
-            Err(refused) => Err(refused),
-            Ok(()) => match self.find(keys) {
-                Some(run) => Ok(run),
-                None => unreachable!(),
-            },
-        }
-    }
-
-    /// The run of these keys, which is made where it is not kept: one that is kept takes no memory. Of five runs the one that was
-    /// made first is let go. After want of memory all is as it was.
-    pub fn get_or_make(&mut self, keys: &[SortKey]) -> Result<&Run, AllocError>
-        ensures* rests { sem 𝓛 (Rests the_row self.entry (λ new. LendsRun self.old keys.now new result)) }
-    {
-        let outcome = self.make(keys);
-        self.made(keys, outcome)
     }
 
     /// The same for another set: the segment and its runs are shared.

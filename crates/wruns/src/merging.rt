@@ -55,7 +55,7 @@ impl<'a> ByKeys<'a> {
         ensures { result ≡ keys_cmp self.now.keys.now (ref_keys self.now.keys.now (rows_seen self.now.sources.now) a.now)
             (ref_keys self.now.keys.now (rows_seen self.now.sources.now) b.now) }
     {
-        for (i, key) in self.keys.iter().enumerate() {
+        for key in self.keys {
             let x = value_of(self.sources, a, key.col, self.null);
             let y = value_of(self.sources, b, key.col, self.null);
             let order = compare(x, y, key);

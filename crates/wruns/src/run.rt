@@ -6,7 +6,7 @@ ghost use Rattle.wcodes.specs.CodedRows.{code_at};
 ghost use Rattle.wruns.specs.Grouping.{AreGrouped, HaveOneCode, TellSharedFrom};
 ghost use Rattle.wruns.specs.Runs.{joined, keys_at, run_of, IsGroup, IsRunOf};
 
-use crate::key_columns::{CodedNumbers, Table, coded_order_of};
+use crate::key_columns::{CodedNumbers, Columnar, coded_order_of};
 use crate::segment_cells::cell_at;
 use std::alloc::{AllocError, Global};
 use std::marker::Model;
@@ -102,13 +102,13 @@ impl Run {
 
 // The rows of a segment.
 #[derive(Clone, Copy)]
-struct SegmentRows<'a> {
+struct SegmentColumns<'a> {
     segment: &'a Segment,
     null: &'a Value,
     ghost missing: { meaning null.now ≡ Null },
 }
 
-impl<'a> Table for SegmentRows<'a> {
+impl<'a> Columnar for SegmentColumns<'a> {
     ghost rows = { λ t. t.segment.now.rows };
 
     fn count(&self) -> usize {
@@ -236,7 +236,7 @@ pub fn sort_run(alloc: Global, segment: &Segment, keys: &[SortKey]) -> Result<Ru
     ensures keys { IfOk result (λ run. run.keys ≡ keys.now) }
     ensures run { IfOk result (IsRunOf segment.now.rows) }
 {
-    let table = SegmentRows {
+    let table = SegmentColumns {
         segment,
         null: &Value::Null,
     };

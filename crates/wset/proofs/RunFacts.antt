@@ -20,11 +20,12 @@ use Rattle.std.specs.FinMap.{is_sorted}
 use Rattle.wentries.specs.Entries.{AllHeldBy, AreSettled, known_entry, known_entries}
 use Rattle.wentries.specs.Blocks.{flat}
 use Rattle.wset.specs.KeptOrders.{IsNoteOf, IsOrderOf}
-use Rattle.wset.specs.Running.{AreStarts, live_rows, orders_in}
-use Rattle.wentries.specs.Keeping.{HeldHasRun, plain_block, plain_entry, plain_held, rows_in}
+use Rattle.wset.specs.Running.{AreStarts, live_rows}
+use Rattle.wentries.specs.Keeping.{AreAdded, HeldHasRun, orders_in, plain_block, plain_entry, plain_held, rows_in}
 use Rattle.wentries.specs.declared.entries.Entry.{Entry}
 use Rattle.wentries.specs.declared.held.Held.{Held}
 use Rattle.wentries.specs.declared.held.Held.TheVariants as held
+use Rattle.wentries.proofs.AddedFacts.{added_none}
 use Rattle.wentries.proofs.Lives.{count_same, plain_live}
 use Rattle.wentries.proofs.Lists.{same_length}
 
@@ -192,3 +193,13 @@ rows_live a s h is =
 pub live_same : (s t : DeclaredView) → Becomes s s.view t → live_rows t ≡ live_rows s
 live_same s t b = ap (λ d. map (λ e. content_rows d e.1) (lives t.view)) b.schema
     ∙ ap (λ v. map (λ e. content_rows s.schema e.1) (lives v)) b.view
+
+-- a set that stays has the same runs
+pub added_still : (keys : List SortKey) (s t : DeclaredView) → t ≡ s → AreAdded keys s.orders t.orders
+added_still keys s t e = subst (λ (x : DeclaredView). AreAdded keys s.orders x.orders) (sym e) (added_none keys s.orders)
+
+-- and what is added between is added
+pub added_between : (keys : List SortKey) (r s t u : DeclaredView) → s ≡ r → AreAdded keys s.orders t.orders → u ≡ t
+    → AreAdded keys r.orders u.orders
+added_between keys r s t u before h after = subst (λ (x : DeclaredView). AreAdded keys x.orders u.orders) before
+    (subst (λ (x : DeclaredView). AreAdded keys s.orders x.orders) (sym after) h)

@@ -1,6 +1,5 @@
 -- The segments of live names with their runs.
 use Rattle.std.specs.Prelude.{◌≡◌, ◌<◌, ◌≤◌, ℕ, suc, List, get_or, length, map, take}
-use Rattle.wvalues.specs.declared.key.SortKey.{SortKey}
 use Rattle.wvalues.specs.Meaning.{Meaning}
 use Rattle.wset.specs.Views.{lives}
 use Rattle.wset.specs.Tables.{content_rows}
@@ -8,10 +7,6 @@ use Rattle.wset.specs.Sets.{DeclaredView}
 use Rattle.wentries.specs.Blocks.{flat}
 use Rattle.wentries.specs.declared.entries.Entry.{Entry}
 use Rattle.wentries.specs.Keeping.{kept_in}
-
--- the keys of the runs of each live segment
-abbrev pub orders_in : List Entry → List (List (List SortKey))
-orders_in es = map (λ k. k.1.orders) (kept_in es)
 
 -- the rows of each live content, in the order of names
 abbrev pub live_rows : DeclaredView → List (List (List Meaning))

@@ -5,8 +5,8 @@ use Rattle.wset.specs.Sets.{DeclaredView}
 use Rattle.wentries.specs.Entries.{AllHeldBy, AreSettled, IsRising, known_entries}
 use Rattle.wentries.specs.Blocks.{flat}
 use Rattle.wset.specs.KeptOrders.{IsNoteOf, IsOrderOf}
-use Rattle.wset.specs.Running.{AreStarts, orders_in}
-use Rattle.wentries.specs.Keeping.{rows_in}
+use Rattle.wset.specs.Running.{AreStarts}
+use Rattle.wentries.specs.Keeping.{orders_in, rows_in}
 use Rattle.wset.specs.declared.set.SegmentSet.TheInside.{Inside}
 
 -- the view of the entries, under the declaration

@@ -4,8 +4,7 @@ ghost use Rattle.std.specs.List.{AllByRecursion, IsAmong};
 ghost use Rattle.wruns.specs.Dealing.{segment_rows};
 ghost use Rattle.wruns.specs.Merging.{has_keys, rows_seen};
 ghost use Rattle.wentries.specs.Blocks.{flat};
-ghost use Rattle.wset.specs.Running.{orders_in};
-ghost use Rattle.wentries.specs.Keeping.{rows_in};
+ghost use Rattle.wentries.specs.Keeping.{orders_in, rows_in};
 
 use crate::walk::Walk;
 use std::alloc::{AllocError, Global};

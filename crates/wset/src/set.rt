@@ -17,6 +17,7 @@ ghost use Rattle.wruns.specs.Refs.{refs_by};
 ghost use Rattle.wruns.specs.Runs.{joined};
 ghost use Rattle.wset.specs.Running.{live_rows};
 ghost use Rattle.wset.specs.Sets.{Becomes, LivesAreRead};
+ghost use Rattle.wentries.specs.Keeping.{AreAdded};
 ghost use Rattle.wentries.specs.Holding.{IsReadBy, IsHeldBy, known_of};
 ghost use Rattle.wset.specs.Lending.{AreLivesOf, IsAbove, IsBehindOrigins, only_disputed};
 
@@ -44,8 +45,8 @@ use wvalues::{Name, SortKey};
 /// of names. It keeps an entry for each floor and for each name above it that is not unknown, in the order of names and in
 /// blocks of at most 512, which are cut in two as they grow, and beside the blocks how many live names stand before each, at
 /// most one order of the rows of all live segments, and of one list of keys at most whether no two of these rows share them; both
-/// are let go when what is known changes. A segment's bytes and cells are shared by all sets that know it, and so
-/// are its runs, so a set that is new and then joins another is a cheap copy of it.
+/// are let go when what is known changes, or would have changed but for want of memory. A segment's bytes and cells are shared
+/// by all sets that know it, and so are its runs, so a set that is new and then joins another is a cheap copy of it.
 ///
 /// An eager set (`new`) makes the cells of a segment as it takes it, for queries that are to come; a lazy one (`lazy`) makes none
 /// before it is told to by `make` or asked by `ordered` or `all_differ`. What is shared with another set has the cells that that one
@@ -383,8 +384,8 @@ impl SegmentSet {
         Ok(Retired::New)
     }
 
-    /// The greatest number up to which all names of an origin are retired by a floor. It is found by a binary search,
-    /// and takes no memory.
+    /// The greatest number up to which all names of an origin are retired by a floor. It is found by a binary search
+    /// among the blocks and a walk through one of them, of at most 512 entries, and takes no memory.
     pub fn floor(&self, origin: &[u8]) -> Option<u32>
         ensures { result ≡ floor_of self.now.view origin.now }
     {
@@ -455,11 +456,11 @@ impl SegmentSet {
     /// Learns all that the other set knows. Sets of different declarations are not joined; there, and
     /// where memory runs out, the set is as it was.
     ///
-    /// A join that teaches nothing looks each of the other's names up, makes no list and takes no memory. Any other walks
-    /// the names of both sets once, whatever the segments' sizes: it makes a list of the entries of each
-    /// set and one of both, some 64 bytes a name each, and puts the last into blocks of 512. Segments and
-    /// their runs are shared: none is read or made, and no byte or cell is copied. Of a segment that both have the runs of
-    /// this set stay.
+    /// Each join looks the other's names up in this set, up to the first that teaches something; one that teaches nothing
+    /// makes no list and takes no memory. Any other then goes over the names of both sets, whatever the segments' sizes: it
+    /// makes a list of the entries of each set and one of both, some 64 bytes a name each, and puts the last into blocks of
+    /// 512, so that each entry is shared three times. Segments and their runs are shared: none is read or made, and no byte
+    /// or cell is copied. Of a segment that both have the runs of this set stay.
     pub fn join(&mut self, other: &SegmentSet) -> Result<(), JoinError>
         ensures ok { OnOk result (Becomes self.old (join self.old.view other.now.view) self.new) }
         ensures same { OnOk result (self.old.schema ≡ other.now.schema) }
@@ -498,6 +499,7 @@ impl SegmentSet {
     fn make_runs(&mut self, keys: &[SortKey]) -> Result<(), AllocError>
         ensures same { Becomes self.old self.old.view self.new }
         ensures has { OnOk result (All (λ orders. IsAmong orders keys.now) self.new.orders) }
+        ensures adds { AreAdded keys.now self.old.orders self.new.orders }
     {
         make_in(self.alloc, &mut self.blocks, keys)?;
         Ok(())
@@ -606,6 +608,7 @@ impl SegmentSet {
         requires { AreRunsOf keys.now (live_rows self.old) runs.now }
         ensures same { Becomes self.old self.old.view self.new }
         ensures has { OnOk result (All (λ orders. IsAmong orders keys.now) self.new.orders) }
+        ensures adds { AreAdded keys.now self.old.orders self.new.orders }
     {
         keep_in(self.alloc, &mut self.blocks, keys, runs)?;
         Ok(())
@@ -616,6 +619,7 @@ impl SegmentSet {
     fn sort_and_deal(&mut self, keys: &[SortKey]) -> Result<Vec<RowRef>, AllocError>
         ensures list { IfOk result (λ refs. refs.items ≡ refs_by keys.now (live_rows self.old)) }
         ensures has { OnOk result (All (λ orders. IsAmong orders keys.now) self.new.orders) }
+        ensures adds { AreAdded keys.now self.old.orders self.new.orders }
         ensures same { Becomes self.old self.old.view self.new }
     {
         self.make()?;
@@ -630,6 +634,7 @@ impl SegmentSet {
     fn make_and_merge(&mut self, keys: &[SortKey]) -> Result<Vec<RowRef>, AllocError>
         ensures list { IfOk result (λ refs. refs.items ≡ refs_by keys.now (live_rows self.old)) }
         ensures has { OnOk result (All (λ orders. IsAmong orders keys.now) self.new.orders) }
+        ensures adds { AreAdded keys.now self.old.orders self.new.orders }
         ensures same { Becomes self.old self.old.view self.new }
     {
         self.make_runs(keys)?;
@@ -644,14 +649,15 @@ impl SegmentSet {
     /// `live_at`. A value that is not there, as no column has this number, is null.
     ///
     /// Each live segment has a run of these keys afterwards, by which the rows are found in order the next time; of five runs
-    /// of a segment the one that was made first is let go. Where none has one yet, and there are several, all rows are sorted at
-    /// once and the runs are dealt out of that order; else each run that is missing is made by itself. Where several segments have
-    /// many different keys the order is kept, too, in the place of the one before, until what is known changes: 4 bytes a row;
-    /// where memory runs out for that alone, none is kept. What is known stays as it is, also where memory runs out before the
-    /// rows are found: then the runs that were made so far stay.
+    /// of a segment the one that was made first is let go, and no other is made or let go. Where none has one yet, and there
+    /// are several, all rows are sorted at once and the runs are dealt out of that order; else each run that is missing is made
+    /// by itself. Where several segments have many different keys the order is kept, too, in the place of the one before, until
+    /// what is known changes: 4 bytes a row; where memory runs out for that alone, none is kept. What is known stays as it is,
+    /// also where memory runs out before the rows are found: then the runs that were made so far stay.
     pub fn ordered(&mut self, keys: &[SortKey]) -> Result<Vec<RowRef>, AllocError>
         ensures list { IfOk result (λ refs. refs.items ≡ refs_by keys.now (live_rows self.old)) }
         ensures has { OnOk result (All (λ orders. IsAmong orders keys.now) self.new.orders) }
+        ensures adds { AreAdded keys.now self.old.orders self.new.orders }
         ensures same { Becomes self.old self.old.view self.new }
     {
         if self.live_count() > 1 && can_be_dealt(&self.blocks, keys) {

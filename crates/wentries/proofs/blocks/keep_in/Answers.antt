@@ -1,8 +1,9 @@
-use Rattle.std.proofs.Common.{◌<◌, length, refl, sym, subst, ◌∙◌, arith, take_all}
+use Rattle.std.proofs.Common.{◌<◌, ◌+◌, slice_set, length, refl, sym, subst, ◌∙◌, arith, take_all}
 use Rattle.std.specs.Prelude.{All}
 use Rattle.std.proofs.lemmas.List.Elements.{All-same}
 use Rattle.wentries.specs.Blocks.{flat}
-use Rattle.wentries.specs.Keeping.{BeginWithRuns, HeldHasRun, plain_block, rows_in}
+use Rattle.wentries.specs.Keeping.{BeginWithRuns, HeldHasRun, orders_in, plain_block, rows_in}
+use Rattle.wentries.proofs.AddedFacts.{added_next, blocks_added}
 use Rattle.wentries.proofs.DealtFacts.{begin_all, begin_here, begin_next, rows_by_block}
 use Rattle.wentries.proofs.Lists.{all_more, same_length, set_keeps}
 use Rattle.wentries.proofs.blocks.keep_in.Goals as goal
@@ -13,6 +14,7 @@ loop-i-init c =
     record {
       plain = refl;
       has = λ k d h. absurd (omega (arith, h));
+      adds = refl;
       runs = subst (λ l. BeginWithRuns c.args.keys.now l c.args.runs.now) (sym (rows_by_block bs))
           (begin_all c.args.keys.now (rows_in (flat bs)) c.args.runs.now c.requires);
     }
@@ -36,6 +38,8 @@ loop-i-preserved c =
       plain = set_keeps plain_block bs i c.index_mut.result.now new c.index_mut.ensures.value c.in_ok-left.ensures.plain
           ∙ c.loop-i.invariant.plain;
       has = all_more (All (λ e. HeldHasRun c.args.keys.now e.held)) bs i new lt c.loop-i.invariant.has c.in_ok-left.ensures.has;
+      adds = added_next orders_in c.args.keys.now c.args.blocks.now.items bs i c.index_mut.result.now new
+          c.index_mut.ensures.value c.in_ok-left.ensures.adds c.loop-i.invariant.adds;
       runs = begin_next rows_in c.args.keys.now bs i c.index_mut.result.now new lt c.index_mut.ensures.value
           c.loop-i.left.now c.in_ok-left.left.now c.in_ok-left.ensures.left c.loop-i.invariant.runs;
     }
@@ -44,6 +48,18 @@ pub returns-in_err-left-clause-plain : goal.returns-in_err-left-clause-plain
 returns-in_err-left-clause-plain c =
     set_keeps plain_block c.loop-i.blocks.items c.loop-i.i c.index_mut.result.now c.keep_runs.new.self
     c.index_mut.ensures.value c.keep_runs.ensures.plain ∙ c.loop-i.invariant.plain
+
+pub returns-in_err-left-clause-adds : goal.returns-in_err-left-clause-adds
+returns-in_err-left-clause-adds c =
+    let bs = c.loop-i.blocks.items in
+    let i = c.loop-i.i in
+    blocks_added c.args.keys.now (i + 1) c.args.blocks.now.items (slice_set bs i c.keep_runs.new.self)
+    (added_next orders_in c.args.keys.now c.args.blocks.now.items bs i c.index_mut.result.now c.keep_runs.new.self
+    c.index_mut.ensures.value c.keep_runs.ensures.adds c.loop-i.invariant.adds)
+
+pub returns-clause-adds : goal.returns-clause-adds
+returns-clause-adds c =
+    blocks_added c.args.keys.now c.loop-i.i c.args.blocks.now.items c.loop-i.blocks.items c.loop-i.invariant.adds
 
 pub returns-clause-has : goal.returns-clause-has
 returns-clause-has c =

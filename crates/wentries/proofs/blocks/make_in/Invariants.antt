@@ -1,11 +1,13 @@
 use Rattle.std.proofs.Common.{◌≡◌, map, take}
 use Rattle.std.specs.Prelude.{All}
-use Rattle.wentries.specs.Keeping.{HeldHasRun, plain_block}
+use Rattle.wentries.specs.Keeping.{HeldHasRun, orders_in, plain_block}
+use Rattle.wentries.proofs.AddedFacts.{AreAddedTo}
 use Rattle.wentries.proofs.blocks.make_in.Given as goal
 
--- what is held stays, and the blocks so far have the run
+-- what is held stays, and the blocks so far have the run, which is added to no others
 abbrev pub invariant-loop-i : goal.invariant-loop-i
 invariant-loop-i l = record {
   plain : map plain_block l.blocks.items ≡ map plain_block l.initial.blocks.items;
   has : All (All (λ e. HeldHasRun l.keys e.held)) (take l.i l.blocks.items);
+  adds : AreAddedTo orders_in l.keys l.i l.initial.blocks.items l.blocks.items;
 }

@@ -3,7 +3,7 @@ use Rattle.std.specs.Prelude.{All}
 use Rattle.std.specs.List.{AllByRecursion, IsAmong}
 use Rattle.wruns.specs.Merging.{has_keys, rows_seen}
 use Rattle.wentries.specs.Blocks.{flat}
-use Rattle.wset.specs.Running.{orders_in}
+use Rattle.wentries.specs.Keeping.{orders_in}
 use Rattle.wentries.specs.Keeping.{rows_in}
 use Rattle.wset.proofs.running.sources.Given as goal
 

@@ -5,9 +5,9 @@ use Rattle.wruns.specs.Dealing.{segment_rows}
 use Rattle.wruns.proofs.differing.KeyedSegments.compare_keys.Given as goal
 
 -- what is left decides
-abbrev pub invariant-loop-i : goal.invariant-loop-i
-invariant-loop-i l =
-    keys_cmp (drop l.i l.self.keys.now) (ref_keys (drop l.i l.self.keys.now) (segment_rows l.self.segments.now) l.a)
-    (ref_keys (drop l.i l.self.keys.now) (segment_rows l.self.segments.now) l.b)
+abbrev pub invariant-loop-key : goal.invariant-loop-key
+invariant-loop-key l =
+    keys_cmp (drop l.key-index l.self.keys.now) (ref_keys (drop l.key-index l.self.keys.now) (segment_rows l.self.segments.now) l.a)
+    (ref_keys (drop l.key-index l.self.keys.now) (segment_rows l.self.segments.now) l.b)
     ≡ keys_cmp l.self.keys.now (ref_keys l.self.keys.now (segment_rows l.self.segments.now) l.a)
     (ref_keys l.self.keys.now (segment_rows l.self.segments.now) l.b)

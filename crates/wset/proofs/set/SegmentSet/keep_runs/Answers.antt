@@ -4,7 +4,8 @@ use Rattle.std.specs.List.{IsAmong}
 use Rattle.std.proofs.lemmas.List.Elements.{All-from_recursion}
 use Rattle.wruns.specs.Dealing.{AreRunsOf}
 use Rattle.wentries.specs.Blocks.{flat}
-use Rattle.wset.specs.Running.{orders_in}
+use Rattle.wentries.specs.Keeping.{AreAdded, orders_in}
+use Rattle.wset.specs.Sets.{DeclaredView}
 use Rattle.wset.proofs.RunFacts.{all_have, flat_plain, known_same, orderly_same, rows_live}
 use Rattle.wset.proofs.Sets.{changed}
 use Rattle.wset.proofs.set.SegmentSet.keep_runs.Goals as goal
@@ -20,6 +21,16 @@ returns-in_err-keep_in-clause-same c =
     changed c.self.inside.schema _ _ _ _ c.args.self.now (λ v. v) c.self.view_is
     (ap from_sorted (known_same (flat c.keep_in.new.blocks.items) (flat c.self.inside.blocks.items)
     (flat_plain c.keep_in.new.blocks.items c.self.inside.blocks.items c.keep_in.ensures.plain)))
+
+pub returns-in_err-keep_in-clause-adds : goal.returns-in_err-keep_in-clause-adds
+returns-in_err-keep_in-clause-adds c =
+    subst (λ (s : DeclaredView). AreAdded c.args.keys.now s.orders (orders_in (flat c.keep_in.new.blocks.items))) c.self.view_is
+    c.keep_in.ensures.adds
+
+pub returns-clause-adds : goal.returns-clause-adds
+returns-clause-adds c =
+    subst (λ (s : DeclaredView). AreAdded c.args.keys.now s.orders (orders_in (flat c.keep_in.new.blocks.items))) c.self.view_is
+    c.keep_in.ensures.adds
 
 pub returns-clause-same : goal.returns-clause-same
 returns-clause-same c =

@@ -5,8 +5,7 @@ use Rattle.std.proofs.lemmas.List.Elements.{recursion_from_All}
 use Rattle.wruns.specs.Merging.{rows_seen}
 use Rattle.wruns.specs.Refs.{refs_by}
 use Rattle.wentries.specs.Blocks.{flat}
-use Rattle.wset.specs.Running.{orders_in}
-use Rattle.wentries.specs.Keeping.{rows_in}
+use Rattle.wentries.specs.Keeping.{orders_in, rows_in}
 use Rattle.wset.specs.Sets.{DeclaredView}
 use Rattle.wset.proofs.RunFacts.{rows_live}
 use Rattle.wset.proofs.set.SegmentSet.merged.Goals as goal

@@ -2,7 +2,7 @@ use Rattle.std.proofs.Common.{◌≡◌, take}
 use Rattle.wcodes.specs.CodedRows.{key_column, values_seen}
 use Rattle.wruns.specs.Dealing.{segment_rows}
 use Rattle.wruns.specs.Runs.{joined}
-use Rattle.wruns.proofs.dealing.NumberedRowsTable.column.Given as goal
+use Rattle.wruns.proofs.dealing.JoinedRowsColumnar.column.Given as goal
 
 -- the values of the segments so far
 abbrev pub invariant-loop-segment : goal.invariant-loop-segment

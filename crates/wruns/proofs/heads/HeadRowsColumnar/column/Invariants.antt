@@ -2,7 +2,7 @@ use Rattle.std.proofs.Common.{◌≡◌, map, take}
 use Rattle.wcodes.specs.CodedRows.{key_column, values_seen}
 use Rattle.wruns.specs.Heads.{head_row}
 use Rattle.wruns.specs.Merging.{rows_seen}
-use Rattle.wruns.proofs.heads.HeadRowsTable.column.Given as goal
+use Rattle.wruns.proofs.heads.HeadRowsColumnar.column.Given as goal
 
 -- the values so far
 abbrev pub invariant-loop-head : goal.invariant-loop-head

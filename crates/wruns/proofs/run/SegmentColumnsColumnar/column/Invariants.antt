@@ -1,6 +1,6 @@
 use Rattle.std.proofs.Common.{◌≡◌, take}
 use Rattle.wcodes.specs.CodedRows.{key_column, values_seen}
-use Rattle.wruns.proofs.run.SegmentRowsTable.column.Given as goal
+use Rattle.wruns.proofs.run.SegmentColumnsColumnar.column.Given as goal
 
 -- the values so far
 abbrev pub invariant-loop-row : goal.invariant-loop-row
