@@ -7,7 +7,7 @@ use Rattle.wsegment.specs.declared.fault.SegmentFault.{SegmentFault}
 use Rattle.wset.specs.Items.{Item, SegmentItem, RetirementItem, FloorItem}
 use Rattle.wstream.specs.Inboxes.{Inbox}
 use Rattle.wstream.specs.Messages.{IsBad, IsMessage, IsOpen, message_text}
-use Rattle.wbatch.specs.Deliveries.{Adds, IsNext, IsReady, IsRefused, item_of}
+use Rattle.wbatch.specs.Deliveries.{Adds, IsNext, IsReady, IsRefused, StopsBehind, StopsNext, item_of}
 use Rattle.wbatch.specs.Streams.{EndsInside, IsDelivered, MeetsBad, Stops, stream_text}
 use Rattle.wbatch.specs.declared.delivery.Delivery.{Delivery}
 use Rattle.wbatch.specs.declared.delivery.Delivery.TheVariants as deliveries
@@ -135,3 +135,40 @@ next_stops d ds old new (stops.Segment fault) ready good m = stops_here d ds m.i
     ready m.is m.held_is m.refused
 next_stops d ds old new stops.Bad ready good m = stops_bad d ds old ready good m
 next_stops d ds old new stops.NoMemory ready good m = tt
+
+-- ---- what is held where a stream stops
+
+pub next_is : (d : Declaration) (old new : Inbox) (reason : Stop) → old.is_bad ≡ false → IsNext d old (Err reason) new
+    → StopsNext d old.held reason
+next_is d old new (stops.Segment fault) good m = m
+next_is d old new stops.Bad good (inl bad) = absurd (true≢false (sym bad ∙ good))
+next_is d old new stops.Bad good (inr bad) = bad
+next_is d old new stops.NoMemory good m = tt
+
+-- nothing is added where it stops
+pub behind_all : (d : Declaration) (old now new : List Delivery) (held left : List ℕ) (reason : Stop)
+    → stream_text (map item_of now) left ≡ stream_text (map item_of old) held → new ≡ now → StopsNext d left reason
+    → StopsBehind d (map item_of new) (stream_text (map item_of old) held) reason
+behind_all d old now new held left reason same is next = record {
+  more = left;
+  stream_is = sym same ∙ ap (λ ds. stream_text (map item_of ds) left) (sym is);
+  next = next;
+}
+
+-- in a block that has come
+pub behind_block : (d : Declaration) (old new : List Item) (held block both : List ℕ) (reason : Stop) → both ≡ held ++ block
+    → StopsBehind d new (stream_text old both) reason → StopsBehind d new (stream_text old held ++ block) reason
+behind_block d old new held block both reason e b = record {
+  more = b.more;
+  stream_is = append_assoc (flat_map message_text old) held block ∙ ap (λ l. flat_map message_text old ++ l) (sym e) ∙ b.stream_is;
+  next = b.next;
+}
+
+-- where there is no memory for a block
+pub before_block : (d : Declaration) (items : List Item) (held block : List ℕ)
+    → StopsBehind d items (stream_text items held ++ block) stops.NoMemory
+before_block d items held block = record {
+  more = held ++ block;
+  stream_is = append_assoc (flat_map message_text items) held block;
+  next = tt;
+}

@@ -47,6 +47,18 @@ IsNext d old (Err (stops.Segment fault)) new = Meets d old.held (stops.Segment f
 IsNext d old (Err stops.Bad) new = (old.is_bad ≡ true) ⊎ IsBad old.held
 IsNext d old (Err stops.NoMemory) new = ⊤
 
+-- what is held stops a stream, whatever follows, where that is not want of memory
+abbrev pub StopsNext : Declaration → List ℕ → Stop → Type 0
+StopsNext d held (stops.Segment fault) = Meets d held (stops.Segment fault)
+StopsNext d held stops.Bad = IsBad held
+StopsNext d held stops.NoMemory = ⊤
+
+-- the stream is the messages of these items, and then what stops it
+pub record StopsBehind (d : Declaration) (items : List Item) (stream : List ℕ) (reason : Stop) : Type 0 where
+  pub more : List ℕ
+  pub stream_is : stream ≡ stream_text items more
+  pub next : StopsNext d more reason
+
 -- a message was taken off the front of what is held, and what it delivers stands behind the others
 pub record Adds (d : Declaration) (old : List Delivery) (held : Inbox) (new : List Delivery) (left : Inbox) : Type 0 where
   pub ready : AllByRecursion (IsReady d) new

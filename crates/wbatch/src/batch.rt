@@ -1,9 +1,9 @@
 //! Deliveries in order, made from a stream that comes in blocks.
-ghost use Rattle.std.specs.Prelude.{◌≡◌, ◌⊎◌, ◌++◌, [], true, false, None, Some, Err, IfOk, IfErr, OnOk, length, map};
+ghost use Rattle.std.specs.Prelude.{◌≡◌, ◌⊎◌, ◌++◌, [], true, false, None, Some, Err, IfOk, IfErr, OnOk, OnErr, length, map};
 ghost use Rattle.std.specs.List.{AllByRecursion};
 ghost use Rattle.wstream.specs.Messages.{IsOpen};
 ghost use Rattle.wbatch.specs.Batches.{ended, stream_of};
-ghost use Rattle.wbatch.specs.Deliveries.{Adds, AddsAll, IsNext, IsReady, item_of};
+ghost use Rattle.wbatch.specs.Deliveries.{Adds, AddsAll, IsNext, IsReady, StopsBehind, StopsNext, item_of};
 ghost use Rattle.wbatch.specs.declared.stop.Stop.{Stop};
 ghost use Rattle.wbatch.specs.Streams.{IsDelivered, IsUndelivered, Stops, stream_text};
 
@@ -71,6 +71,8 @@ fn add_next(
     ensures end { IfOk result (λ is_end. is_end ≡ true → IsOpen inbox.old.held × (inbox.new.held ≡ inbox.old.held)
         × (inbox.new.is_bad ≡ false) × (deliveries.new ≡ deliveries.old)) }
     ensures stops { IfErr result (Stops schema.now (stream_text (map item_of deliveries.old.items) inbox.old.held)) }
+    ensures left { OnErr result (deliveries.new.items ≡ deliveries.old.items) }
+    ensures next { IfErr result (StopsNext schema.now inbox.old.held) }
     ensures ready { AllByRecursion (IsReady schema.now) deliveries.new.items }
 {
     let delivery = match next_delivery(alloc, schema, inbox) {
@@ -95,6 +97,8 @@ fn add_whole(
     requires ready { AllByRecursion (IsReady schema.now) deliveries.old.items }
     ensures ok { OnOk result (AddsAll schema.now deliveries.old.items inbox.old deliveries.new.items inbox.new) }
     ensures stops { IfErr result (Stops schema.now (stream_text (map item_of deliveries.old.items) inbox.old.held)) }
+    ensures front { IfErr result (StopsBehind schema.now (map item_of deliveries.new.items)
+        (stream_text (map item_of deliveries.old.items) inbox.old.held)) }
     ensures ready { AllByRecursion (IsReady schema.now) deliveries.new.items }
 {
     'messages: loop {
@@ -124,6 +128,8 @@ fn add_block(
     ensures unfinished { OnOk result (IsOpen inbox.new.held) }
     ensures good { OnOk result (inbox.new.is_bad ≡ false) }
     ensures stops { IfErr result (Stops schema.now (stream_text (map item_of deliveries.old.items) inbox.old.held ++ block.now)) }
+    ensures front { IfErr result (StopsBehind schema.now (map item_of deliveries.new.items)
+        (stream_text (map item_of deliveries.old.items) inbox.old.held ++ block.now)) }
 {
     match inbox.push(block) {
         Ok(()) => add_whole(alloc, schema, inbox, deliveries),
@@ -147,13 +153,16 @@ impl Batch {
     }
 
     /// Adds the next bytes of the stream: what its messages deliver that are whole then. It stops at the first message that
-    /// cannot be delivered, at bytes that no message begins with, and where a growth is refused; it answers that from then on.
+    /// cannot be delivered, at bytes that no message begins with, and where a growth is refused; it answers that from then on, and
+    /// has the items of the messages before.
     pub fn push(&mut self, block: &[u8]) -> Result<(), Stop>
         ensures schema { self.new.schema ≡ self.old.schema }
         ensures stream { OnOk result (stream_of self.new ≡ stream_of self.old ++ block.now) }
         ensures goes_on { OnOk result ((self.old.stopped ≡ None) × (self.new.stopped ≡ None)) }
         ensures stops { IfErr result (λ reason. (self.old.stopped ≡ Some reason)
             ⊎ Stops self.old.schema (stream_of self.old ++ block.now) reason) }
+        ensures front { self.old.stopped ≡ None
+            → IfErr result (StopsBehind self.old.schema self.new.items (stream_of self.old ++ block.now)) }
         ensures stopped { IfErr result (λ reason. self.new.stopped ≡ Some reason) }
         ensures stays { (reason : Stop) → self.old.stopped ≡ Some reason → (result ≡ Err reason) × (self.new ≡ self.old) }
     {

@@ -64,8 +64,8 @@ impl BlockReader {
         ensures bytes { Keeps (left R.remaining self.old.held input.old) (left R.remaining self.new.held input.new) }
         ensures sound { OnOk result (IsSound input.new) }
         ensures reads { input.old.reads ≤ input.new.reads }
-        ensures more { IfOk result (λ more. IsTrue more → (0 < length self.new.held) × (length self.new.held ≤ block)
-            × (input.new.reads ≡ input.old.reads + 1)) }
+        ensures once { OnOk result (input.new.reads ≡ input.old.reads + 1) }
+        ensures more { IfOk result (λ more. IsTrue more → (0 < length self.new.held) × (length self.new.held ≤ block)) }
         ensures end { IfOk result (λ more. (more ≡ false) → (self.new.held ≡ []) × IsAtEnd (R.remaining input.new.inner)) }
         ensures fault { IfErr result (λ fault. (fault ≡ ReadFault.Reader) × ReadFailed input.new) }
     {

@@ -81,7 +81,7 @@ fn line_found(bytes: &[u8], line: &[u8], rest: &[u8]) -> Found
     form_found(bytes, rest, form)
 }
 
-/// What stands first in a stream. It looks at no more than a header line and the byte behind a body.
+/// What stands first in a stream. That it looks at no more than a header line and the byte behind a body, no clause says.
 pub(crate) fn first_of(bytes: &[u8]) -> Found
     ensures { Finds bytes.now result }
 {

@@ -1,5 +1,6 @@
 //! Keeps what has come of a delivery stream.
-ghost use Rattle.std.specs.Prelude.{◌≡◌, ◌≤◌, [], ◌++◌, true, false, Some, None, Err, OnOk, OnErr, drop, length, vec_len};
+ghost use Rattle.std.specs.Prelude.{◌≡◌, ◌<◌, ◌≤◌, ◌-◌, ◌⊎◌, [], ◌++◌, true, false, Some, None, Err, OnOk, OnErr, drop, length};
+ghost use Rattle.std.specs.Prelude.{vec_len};
 ghost use Rattle.std.specs.Borrow.{sem};
 ghost use Rattle.std.specs.Io.BufRead.{Rests};
 ghost use Rattle.wstream.specs.contracts.inbox.Inbox.{the_row};
@@ -41,6 +42,8 @@ fn let_go(bytes: &mut Vec<u8>, start: usize) -> usize
     requires { start ≤ vec_len bytes.old }
     ensures within { result ≤ vec_len bytes.new }
     ensures held { drop result bytes.new.items ≡ drop start bytes.old.items }
+    ensures half { (result ≡ 0) ⊎ (result < vec_len bytes.new - result) }
+    ensures lazy { start < vec_len bytes.old - start → (result ≡ start) × (bytes.new ≡ bytes.old) }
 {
     let held = bytes.len() - start;
     if start < held {

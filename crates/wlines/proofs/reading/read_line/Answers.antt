@@ -27,7 +27,7 @@ returns-in_default-clause-reads g c =
     let kept = rw c.in_default.is at c.in_ok-next.ensures.kept in
     let end = rw c.in_default.is at c.in_ok-next.ensures.end in
     ended_line c.end_without_feed.result _ _ (left g.R.Read.remaining c.next.new.self.held c.next.new.input) c.bytes.line
-    c.bytes.invariant.consumed kept end c.bytes.invariant.lacks c.end_without_feed.ensures.unfed
+    c.bytes.invariant.consumed kept end c.bytes.invariant.lacks c.bytes.invariant.short c.end_without_feed.ensures.unfed
     c.end_without_feed.ensures.closed c.end_without_feed.ensures.malformed
 
 pub returns-then-is_full-clause-reads : goal.returns-then-is_full-clause-reads

@@ -6,7 +6,7 @@ use Rattle.wscript.proofs.reading.read_command.Goals as goal
 pub returns-in-Malformed-clause-reads : goal.returns-in-Malformed-clause-reads
 returns-in-Malformed-clause-reads g c =
     let read = rw c.in-Malformed.is at c.in_ok-end.ensures.reads in
-    bad_line c.args.declared (left g.R.Read.remaining c.args.source.now.held c.args.input.now) read
+    bad_line c.args.declared (left g.R.Read.remaining c.args.source.now.held c.args.input.now) read.0
 
 pub returns-in_default-clause-reads : goal.returns-in_default-clause-reads
 returns-in_default-clause-reads g c =
