@@ -10,17 +10,17 @@ use wreplies::Text;
 use wstore::Node;
 
 /// The status of what was done.
-const DONE: u8 = 0;
+pub const DONE: u8 = 0;
 
 /// The status of a refusal.
-const REFUSED: u8 = 1;
+pub const REFUSED: u8 = 1;
 
 /// What a subcommand gives.
 #[derive(Drop)]
 pub struct Acted {
     /// What is printed to standard output.
     pub output: Text,
-    /// The exit status: 0 where it was done, 1 where it was refused.
+    /// The exit status: `DONE` or `REFUSED`.
     pub status: u8,
     /// The bytes of the store from now on, where they are other than those that it had.
     pub store: Option<Vec<u8>>,

@@ -216,7 +216,8 @@ fn act_read(
 /// What the subcommand of a choice gives on the bytes of the table's file, of the store's file if there is one, and
 /// of CSV, OTHER or STREAM, which are empty where the subcommand has none. The table is judged first, then the store, then the
 /// subcommand. There is a new store only where the subcommand is done and the old one has other bytes than it is to have.
-/// `AllocError`: memory ran out while the table was read, or behind that, and then the table is a declaration.
+/// `AllocError`: memory was refused while the declaration was read, or, once it was valid, while the store was read or the
+/// subcommand done.
 #[tactic(auto, using(crate::proofs::Outcomes::acts, crate::proofs::Outcomes::lacks))]
 pub fn act(
     alloc: Global,

@@ -19,7 +19,7 @@ mod laws;
 mod opening;
 mod queries;
 
-pub use acted::{Acted, refused};
+pub use acted::{Acted, DONE, REFUSED, refused};
 pub use acting::act;
 pub use feeding::{feed_node, feed_store, undelivered};
 pub use laws::{long_is_refused_alike, long_table_is_refused_alike};

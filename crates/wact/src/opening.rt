@@ -87,9 +87,9 @@ fn open_by(
     }
 }
 
-/// The node of a store, of which the bytes of the table's file and of the store's are lent, if there is one. The table is
-/// judged first. `AllocError`: a growth was refused, as none is for a table of over 65,536 bytes; behind a declaration that was read,
-/// in reading the store, or in telling at which row a segment of it is refused, as the clause of `open_by` says.
+/// Opens the table's declaration and, if there is one, the store's file. `Refused` has the refusal to print: of the declaration,
+/// else of the store. `AllocError`: memory was refused while either was read or a refusal written; never for a declaration over
+/// 65,536 bytes.
 pub fn open_store(
     alloc: Global,
     table: &[u8],

@@ -18,7 +18,7 @@ pub struct QueryReply {
     pub is_refused: bool,
 }
 
-/// Answers a query on what the node knows. `AllocError`: a growth was refused, as none is for bytes that are too long or no UTF-8.
+/// Answers a query on what the node knows. `AllocError`: a growth was refused; never for a query that is too long or not UTF-8.
 pub fn reply(alloc: Global, node: &mut Node, query: &[u8]) -> Result<QueryReply, AllocError>
     ensures replies { IfOk result (λ reply. IsReply node.old.schema node.old.view query.now (bytes_of reply.text) reply.is_refused) }
     ensures lacks { OnErr result (IsText query.now) }

@@ -54,7 +54,7 @@ struct OpenPair {
     /// Whether it holds a SELECT.
     is_query: bool,
     /// Whether the last call in it is one of an aggregate without OVER.
-    has_fed: bool,
+    last_is_group_call: bool,
 }
 
 /// The way through the tokens.
@@ -127,7 +127,7 @@ impl OpenPair {
             Opener::Over => inside.is_in_call = true,
             Opener::Function | Opener::Filter => {
                 inside.is_in_call = true;
-                inside.is_in_aggregate = inside.is_in_aggregate || self.has_fed;
+                inside.is_in_aggregate = inside.is_in_aggregate || self.last_is_group_call;
             }
             Opener::Other => {}
         }
@@ -140,14 +140,14 @@ impl Walk {
     fn enter(&mut self, tokens: &[Token], pairs: &Pairs, number: usize) -> Result<(), AllocError> {
         let opener = opener_at(tokens, number);
         if opener == Opener::Function {
-            self.inner.has_fed = pairs.is_group_call(tokens, number.saturating_sub(1));
+            self.inner.last_is_group_call = pairs.is_group_call(tokens, number.saturating_sub(1));
         }
         let standing = self.inner.standing_behind(opener);
         self.outer.push(self.inner)?;
         self.inner = OpenPair {
             standing,
             is_query: opener == Opener::From,
-            has_fed: false,
+            last_is_group_call: false,
         };
         Ok(())
     }
@@ -199,11 +199,11 @@ fn standings_of(
         inner: OpenPair {
             standing: beginning(0),
             is_query: true,
-            has_fed: false,
+            last_is_group_call: false,
         },
         outer: Vec::new(alloc),
     };
-    'tokens: for number in 0..tokens.len() {
+    for number in 0..tokens.len() {
         let standing = walk.take(tokens, pairs, number)?;
         standings.push(standing)?;
     }
@@ -220,10 +220,7 @@ impl Clauses {
 
     /// Where a token stands.
     pub fn standing(&self, token: usize) -> Option<Standing> {
-        match self.standings.get(token) {
-            Some(standing) => Some(*standing),
-            None => None,
-        }
+        self.standings.get(token).copied()
     }
 
     /// Whether a token stands in this clause of its SELECT.

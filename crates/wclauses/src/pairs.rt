@@ -24,7 +24,7 @@ struct Opened {
 
 /// What stands in the parentheses of a call.
 #[derive(Clone, Copy)]
-pub enum Given {
+pub enum Arguments {
     Star,
     /// So many arguments.
     Listed(usize),
@@ -101,7 +101,7 @@ impl Pairs {
             },
             outer: Vec::new(alloc),
         };
-        'tokens: for (number, token) in tokens.iter().enumerate() {
+        for (number, token) in tokens.iter().enumerate() {
             way.take(number, token)?;
         }
         Ok(Pairs { pairs: way.pairs })
@@ -128,17 +128,17 @@ impl Pairs {
         }
     }
 
-    /// What the function at a token is given, or GROUPING.
-    pub fn given(&self, tokens: &[Token], name: usize) -> Given {
+    /// The arguments of the function at a token, or of GROUPING.
+    pub fn arguments(&self, tokens: &[Token], name: usize) -> Arguments {
         let open = name.saturating_add(1);
         let first = open.saturating_add(1);
         if is_symbol(tokens, first, Symbol::Asterisk) {
-            return Given::Star;
+            return Arguments::Star;
         }
         if is_symbol(tokens, first, Symbol::CloseParenthesis) {
-            return Given::Listed(0);
+            return Arguments::Listed(0);
         }
-        Given::Listed(self.commas(open).saturating_add(1))
+        Arguments::Listed(self.commas(open).saturating_add(1))
     }
 
     /// Whether the function at a token has FILTER.

@@ -43,11 +43,10 @@ pub(crate) fn is_keyword(tokens: &[Token], number: usize, keyword: Keyword) -> b
 
 /// Whether a token opens a pair of parentheses or closes one.
 pub fn is_parenthesis(token: &Token) -> bool {
-    match &token.lexeme {
-        Lexeme::Symbol(Symbol::OpenParenthesis) => true,
-        Lexeme::Symbol(Symbol::CloseParenthesis) => true,
-        _ => false,
-    }
+    matches!(
+        &token.lexeme,
+        Lexeme::Symbol(Symbol::OpenParenthesis | Symbol::CloseParenthesis)
+    )
 }
 
 /// Whether the name at a token is that of a function.

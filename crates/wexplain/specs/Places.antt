@@ -9,6 +9,6 @@ use Rattle.wshown.specs.Shown.{shown_bytes, shown_value}
 abbrev pub name_text : NameParts → List ℕ
 name_text name = shown_bytes name.origin ++ (32 ∷ decimal name.number)
 
--- how many bytes stand before the rest of some, and the line there
-abbrev pub byte_text : ℕ → List ℕ → List ℕ
-byte_text before rest = codes "at byte " ++ (decimal before ++ (codes " stands " ++ shown_value (before_first (λ b. b == 10) rest)))
+-- the offset of the rest of some bytes, and the first line of it, which stands there
+abbrev pub offset_text : ℕ → List ℕ → List ℕ
+offset_text before rest = codes "at byte " ++ (decimal before ++ (codes " stands " ++ shown_value (before_first (λ b. b == 10) rest)))

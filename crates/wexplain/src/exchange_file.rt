@@ -3,7 +3,7 @@ ghost use Rattle.std.specs.Prelude.{◌≡◌, ◌==◌, ◌++◌, ◌-◌, IfOk
 ghost use Rattle.std.specs.List.{before_first, position};
 ghost use Rattle.wshown.specs.Shown.{BeginsWith};
 ghost use Rattle.wsentences.specs.Labels.{file_label};
-ghost use Rattle.wexplain.specs.Places.{byte_text, name_text};
+ghost use Rattle.wexplain.specs.Places.{offset_text, name_text};
 
 use crate::items::{Item, cut_item};
 use std::alloc::{AllocError, Global};
@@ -57,14 +57,14 @@ fn first_line(bytes: &[u8]) -> &[u8]
     }
 }
 
-/// Adds how many bytes stand before the rest of some, and the line there.
-pub(crate) fn push_byte(
+/// Adds the offset `before` and the first line of `rest`, which stands there.
+pub(crate) fn push_offset(
     alloc: Global,
     text: &mut String,
     before: u64,
     rest: &[u8],
 ) -> Result<(), AllocError>
-    ensures { OnOk result (string_bytes text.new ≡ string_bytes text.old ++ byte_text before rest.now) }
+    ensures { OnOk result (string_bytes text.new ≡ string_bytes text.old ++ offset_text before rest.now) }
 {
     text.push_str("at byte ")?;
     push_number(text, before)?;
@@ -74,10 +74,10 @@ pub(crate) fn push_byte(
 
 // Adds where the rest of some bytes begins, and the line there.
 fn push_at(alloc: Global, text: &mut String, bytes: &[u8], rest: &[u8]) -> Result<(), AllocError>
-    ensures { OnOk result (string_bytes text.new ≡ string_bytes text.old ++ byte_text (length bytes.now - length rest.now) rest.now) }
+    ensures { OnOk result (string_bytes text.new ≡ string_bytes text.old ++ offset_text (length bytes.now - length rest.now) rest.now) }
 {
     let before = bytes.len().saturating_sub(rest.len());
-    push_byte(alloc, text, before as u64, rest)
+    push_offset(alloc, text, before as u64, rest)
 }
 
 // Adds the first line of the declaration in a file that the table's own has not.
@@ -88,7 +88,7 @@ fn push_other_line(
     own: &[u8],
 ) -> Result<(), AllocError> {
     let mut lines = own.split(|byte| *byte == b'\n');
-    'lines: for line in declared.split(|byte| *byte == b'\n') {
+    for line in declared.split(|byte| *byte == b'\n') {
         let wanted = lines.next().unwrap_or(b"");
         if line != wanted {
             text.push_str("it declares ")?;
@@ -310,7 +310,7 @@ fn push_file_place(
 
 /// Why an exchange file is refused by the table: the sentence of the fault, of a refused segment then that of its own, and a
 /// line with what the bytes are called and the place in them.
-pub fn explain_file(
+pub(crate) fn explain_file(
     alloc: Global,
     file: &str,
     schema: &Schema,

@@ -30,6 +30,13 @@ pub struct Stream<'p, 'b> {
     pub place: Place<'b>,
 }
 
+/// The words of a name, as they were written.
+#[derive(Clone, Copy)]
+pub struct NameWords<'w> {
+    pub origin: &'w str,
+    pub number: &'w str,
+}
+
 /// What a subcommand was given. Its paths and words, the bytes of the table, of the store and of the input are lent from different
 /// places, for as long as each of these has them.
 #[derive(Clone, Copy)]
@@ -44,12 +51,10 @@ pub struct Given<'p, 't, 's, 'w, 'o> {
     pub stream: Option<Stream<'w, 'o>>,
     /// The other store.
     pub other: Option<Input<'w, 'o>>,
-    /// The word of a name's origin, empty where there was no name.
-    pub origin: &'w str,
-    /// The word of a name's number, empty where there was no name.
-    pub number: &'w str,
-    /// The text of the query, empty where there was none.
-    pub query: &'w str,
+    /// The words of the name, if there was one.
+    pub name: Option<NameWords<'w>>,
+    /// The text of the query, if there was one.
+    pub query: Option<&'w str>,
 }
 
 // Whether a store can be read.
@@ -130,7 +135,8 @@ fn told_by(
         Refusal::Segment(fault) => told_segment(alloc, schema, given, fault),
         Refusal::File(fault) => told_file(alloc, schema, given, fault),
         Refusal::Query(fault) => {
-            let text = explain_query(alloc, schema, given.query.as_bytes(), fault)?;
+            let query = given.query.unwrap_or("");
+            let text = explain_query(alloc, schema, query.as_bytes(), fault)?;
             Ok(Some(text))
         }
         Refusal::Stream => told_stream(alloc, given),
@@ -154,6 +160,17 @@ fn told_below(
     }
 }
 
+// The words of the name, which are empty where there was none.
+fn name_words<'w>(given: &Given<'_, '_, '_, 'w, '_>) -> NameWords<'w> {
+    match given.name {
+        Some(words) => words,
+        None => NameWords {
+            origin: "",
+            number: "",
+        },
+    }
+}
+
 // Explains a refusal.
 fn told(
     alloc: Global,
@@ -171,8 +188,9 @@ fn told(
             Ok(Some(text))
         }
         Refusal::Name(fault) => {
-            let origin = given.origin.as_bytes();
-            let text = explain_name(alloc, origin, given.number.as_bytes(), fault)?;
+            let words = name_words(given);
+            let origin = words.origin.as_bytes();
+            let text = explain_name(alloc, origin, words.number.as_bytes(), fault)?;
             Ok(Some(text))
         }
         _ => told_below(alloc, given, refusal),

@@ -78,13 +78,8 @@ pub(crate) fn cut_item(bytes: &[u8]) -> Result<Item<'_>, &[u8]>
 pub(crate) fn cut_short(bytes: &[u8]) -> Option<Name>
     ensures { IfSome result (λ name. IsCutShort bytes.now name) }
 {
-    let Some((line, rest)) = cut_line(bytes) else {
-        return None;
-    };
-    let Some(form) = read_form(line) else {
-        return None;
-    };
-    match form {
+    let (line, rest) = cut_line(bytes)?;
+    match read_form(line)? {
         Form::Content(name, len) if len as usize <= LONGEST_SEGMENT && rest.len() <= len as usize =>
             Some(name),
         _ => None,

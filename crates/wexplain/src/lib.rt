@@ -22,6 +22,4 @@ mod query;
 mod reply;
 mod stream;
 
-pub use exchange_file::explain_file;
-pub use explaining::{Given, Input, Stream, explain};
-pub use query::explain_query;
+pub use explaining::{Given, Input, NameWords, Stream, explain};

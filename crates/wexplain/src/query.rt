@@ -63,7 +63,7 @@ fn push_query_place(
 
 /// Why a query is refused by the table: the sentence of the fault, and where it has a place, the line of the query and a
 /// caret below it.
-pub fn explain_query(
+pub(crate) fn explain_query(
     alloc: Global,
     schema: &Schema,
     query: &[u8],

@@ -3,7 +3,7 @@ ghost use Rattle.std.specs.Prelude.{IfOk, codes, string_bytes};
 ghost use Rattle.wshown.specs.Shown.{BeginsWith};
 ghost use Rattle.wsentences.specs.Labels.{segment_label};
 
-use crate::exchange_file::{push_byte, push_name};
+use crate::exchange_file::{push_name, push_offset};
 use crate::items::{cut_item, cut_short};
 use std::alloc::{AllocError, Global};
 use wbatch::{Place, Stands};
@@ -62,10 +62,10 @@ fn push_stop(alloc: Global, text: &mut String, before: u64, rest: &[u8]) -> Resu
         return text.push_str(": the stream ends inside it");
     }
     match cut_item(rest) {
-        Ok(_) => push_byte(alloc, text, before, rest),
+        Ok(_) => push_offset(alloc, text, before, rest),
         Err(place) => {
             let read = rest.len().saturating_sub(place.len()) as u64;
-            push_byte(alloc, text, before.saturating_add(read), place)
+            push_offset(alloc, text, before.saturating_add(read), place)
         }
     }
 }

@@ -3,7 +3,7 @@
 //! The place where they cannot is exact: what stands before it is the beginning of some query, and with the token there it
 //! is none. Of tokens that are nested too deep it is the first.
 
-use crate::grammar::{Kind, Part, ROWS, Role, Row, Rule};
+use crate::grammar::{Kind, Nonterminal, PRODUCTIONS, Part, Production, Role};
 use std::alloc::{AllocError, Global};
 use wlexer::Token;
 use wtokens::{keyword, name, number, symbol, text};
@@ -69,26 +69,28 @@ enum Step {
 fn comes_first(kind: Kind, tokens: &[Token]) -> bool {
     match kind {
         Kind::Any => true,
-        Kind::Word(word) => keyword(tokens, word).is_some(),
-        Kind::Sign(sign) => symbol(tokens, sign).is_some(),
+        Kind::Keyword(word) => keyword(tokens, word).is_some(),
+        Kind::Symbol(sign) => symbol(tokens, sign).is_some(),
         Kind::Name => name(tokens).is_some(),
         Kind::Number => number(tokens).is_some(),
         Kind::Text => text(tokens).is_some(),
     }
 }
 
-// The rows of a rule, and those behind them.
-fn rows_from(rule: Rule) -> &'static [Row] {
-    let first = ROWS.partition_point(|row| (row.rule as u8) < rule as u8);
-    ROWS.get(first..).unwrap_or(&[])
+// The productions of a nonterminal, and those behind them.
+fn productions_from(nonterminal: Nonterminal) -> &'static [Production] {
+    let first = PRODUCTIONS.partition_point(|production| {
+        (production.nonterminal as u8) < nonterminal as u8
+    });
+    PRODUCTIONS.get(first..).unwrap_or(&[])
 }
 
-// The row by which a rule is written out before these tokens, if one fits.
-fn row_for(rule: Rule, tokens: &[Token]) -> Option<&'static Row> {
-    rows_from(rule)
+// The production by which a nonterminal is written out before these tokens, if one fits.
+fn production_for(nonterminal: Nonterminal, tokens: &[Token]) -> Option<&'static Production> {
+    productions_from(nonterminal)
         .iter()
-        .take_while(|row| row.rule == rule)
-        .find(|row| comes_first(row.first, tokens))
+        .take_while(|production| production.nonterminal == nonterminal)
+        .find(|production| comes_first(production.first, tokens))
 }
 
 impl<'a> Way<'a> {
@@ -130,12 +132,12 @@ impl<'a> Way<'a> {
         Ok(Step::Taken)
     }
 
-    // Puts what a rule stands for in its place.
-    fn write_out(&mut self, rule: Rule) -> Result<Step, AllocError> {
-        let Some(row) = row_for(rule, self.rest) else {
+    // Puts what a nonterminal stands for in its place.
+    fn write_out(&mut self, nonterminal: Nonterminal) -> Result<Step, AllocError> {
+        let Some(production) = production_for(nonterminal, self.rest) else {
             return Ok(Step::Refused);
         };
-        'parts: for part in row.parts.iter().rev() {
+        for part in production.parts.iter().rev() {
             self.parts.push(*part)?;
         }
         Ok(Step::Taken)
@@ -155,7 +157,7 @@ impl<'a> Way<'a> {
         match part {
             Part::Token(kind) => return Ok(self.take_token(kind)),
             Part::Name(role) => return self.take_name(role),
-            Part::Rule(rule) => return self.write_out(rule),
+            Part::Nonterminal(nonterminal) => return self.write_out(nonterminal),
             Part::Deeper => return Ok(self.go_deeper()),
             Part::Shallower => self.depth = self.depth.saturating_sub(1),
             Part::QueryBegins => self.level = self.level.saturating_add(1),
@@ -168,7 +170,7 @@ impl<'a> Way<'a> {
 
     // Goes on as far as the tokens can be followed.
     fn stop(&mut self, most: usize) -> Result<Stop, AllocError> {
-        'parts: for _ in 0..most {
+        for _ in 0..most {
             let Some(part) = self.parts.pop() else {
                 return Ok(self.stop_at_end());
             };
@@ -200,8 +202,8 @@ pub fn follow(alloc: Global, tokens: &[Token]) -> Result<Followed, AllocError> {
         parts: Vec::new(alloc),
         marks: Vec::new(alloc),
     };
-    way.parts.push(Part::Rule(Rule::Semicolon))?;
-    way.parts.push(Part::Rule(Rule::Query))?;
+    way.parts.push(Part::Nonterminal(Nonterminal::Semicolon))?;
+    way.parts.push(Part::Nonterminal(Nonterminal::Query))?;
     let most = tokens.len().saturating_add(1).saturating_mul(MOST_PARTS);
     let stop = way.stop(most)?;
     Ok(Followed {

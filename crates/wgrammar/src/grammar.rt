@@ -1,7 +1,7 @@
-//! The grammar as a table, row by row: what stands for what, by the first token.
+//! The grammar as a table of productions: what stands for what, by the first token.
 //!
-//! By its first token alone it is settled which row a rule is written out by, so a text is followed without a step back. The
-//! rows stand in the order of their rules, so those of a rule are found by a binary search.
+//! By its first token alone it is settled which production a nonterminal is written out by, so a text is followed without a step
+//! back. The productions stand in the order of their nonterminals, so those of one are found by a binary search.
 
 use wlexer::{Keyword, Symbol};
 
@@ -9,7 +9,7 @@ use wlexer::{Keyword, Symbol};
 #[derive(Clone, Copy, PartialEq, Eq)]
 pub enum Role {
     /// A column, what stands before its dot, or a function.
-    Word,
+    Identifier,
     /// The table behind FROM.
     Table,
     /// The alias of a source.
@@ -31,22 +31,22 @@ pub enum Role {
 pub(crate) enum Kind {
     /// Any token, and the end.
     Any,
-    Word(Keyword),
-    Sign(Symbol),
+    Keyword(Keyword),
+    Symbol(Symbol),
     Name,
     Number,
     Text,
 }
 
-/// A part of a row.
+/// A part of a production.
 #[derive(Clone, Copy)]
 pub(crate) enum Part {
     /// A token of this kind.
     Token(Kind),
     /// A name, which is noted.
     Name(Role),
-    /// What a rule stands for.
-    Rule(Rule),
+    /// What a nonterminal stands for.
+    Nonterminal(Nonterminal),
     /// From here on tokens are nested one level deeper.
     Deeper,
     /// That level ends.
@@ -61,16 +61,16 @@ pub(crate) enum Part {
     KeyEnds,
 }
 
-/// A row of the grammar: what a rule stands for where such a token comes first. The first row that fits is taken.
-pub(crate) struct Row {
-    pub(crate) rule: Rule,
+/// What a nonterminal stands for where such a token comes first. The first production that fits is taken.
+pub(crate) struct Production {
+    pub(crate) nonterminal: Nonterminal,
     pub(crate) first: Kind,
     pub(crate) parts: &'static [Part],
 }
 
-/// A rule of the grammar. Rows stand in this order.
+/// What productions stand for. They stand in this order.
 #[derive(Clone, Copy, PartialEq, Eq)]
-pub(crate) enum Rule {
+pub(crate) enum Nonterminal {
     Query,
     Semicolon,
     Items,
@@ -147,23 +147,23 @@ pub(crate) enum Rule {
     OverWhat,
 }
 
-/// The kind of token in front of a row.
+/// The kind of token in front of a production.
 macro_rules! kind {
     (_) => {
         Kind::Any
     };
-    ([$word:ident]) => {
-        Kind::Word(Keyword::$word)
+    ([$keyword:ident]) => {
+        Kind::Keyword(Keyword::$keyword)
     };
-    ({$sign:ident}) => {
-        Kind::Sign(Symbol::$sign)
+    ({$symbol:ident}) => {
+        Kind::Symbol(Symbol::$symbol)
     };
     ((Token $kind:ident)) => {
         Kind::$kind
     };
 }
 
-/// A part of a row: a keyword in brackets, a symbol in braces, another token or a mark in parentheses, and a rule.
+/// A part of a production: a keyword in brackets, a symbol in braces, another token or a mark in parentheses, and a nonterminal.
 macro_rules! part {
     ((Name $role:ident)) => {
         Part::Name(Role::$role)
@@ -174,22 +174,22 @@ macro_rules! part {
     ((Token $kind:ident)) => {
         Part::Token(Kind::$kind)
     };
-    ([$word:ident]) => {
-        Part::Token(Kind::Word(Keyword::$word))
+    ([$keyword:ident]) => {
+        Part::Token(Kind::Keyword(Keyword::$keyword))
     };
-    ({$sign:ident}) => {
-        Part::Token(Kind::Sign(Symbol::$sign))
+    ({$symbol:ident}) => {
+        Part::Token(Kind::Symbol(Symbol::$symbol))
     };
-    ($rule:ident) => {
-        Part::Rule(Rule::$rule)
+    ($nonterminal:ident) => {
+        Part::Nonterminal(Nonterminal::$nonterminal)
     };
 }
 
-/// A row: `RULE: FIRST => PARTS`.
-macro_rules! row {
-    ($rule:ident: $first:tt => $($part:tt)*) => {
-        Row {
-            rule: Rule::$rule,
+/// A production: `NONTERMINAL: FIRST => PARTS`.
+macro_rules! production {
+    ($nonterminal:ident: $first:tt => $($part:tt)*) => {
+        Production {
+            nonterminal: Nonterminal::$nonterminal,
             first: kind!($first),
             parts: &[$(part!($part)),*],
         }
@@ -197,165 +197,165 @@ macro_rules! row {
 }
 
 /// The grammar of docs/QUERIES.md.
-pub(crate) static ROWS: [Row; 159] = [
-    row!(Query: _ => [Select] Items [From] Source Where Group Having Windows QueryOrder Limits),
-    row!(Semicolon: {Semicolon} => {Semicolon}),
-    row!(Semicolon: _ =>),
-    row!(Items: _ => Item MoreItems),
-    row!(MoreItems: {Comma} => {Comma} Item MoreItems),
-    row!(MoreItems: _ =>),
-    row!(Item: {Asterisk} => {Asterisk}),
-    row!(Item: _ => Condition ItemAlias),
-    row!(ItemAlias: [As] => [As] (Token Name)),
-    row!(ItemAlias: (Token Name) => (Token Name)),
-    row!(ItemAlias: _ =>),
-    row!(Source: {OpenParenthesis} => {OpenParenthesis} (Mark QueryBegins) (Mark Deeper) Query (Mark Shallower) (Mark QueryEnds)
+pub(crate) static PRODUCTIONS: [Production; 159] = [
+    production!(Query: _ => [Select] Items [From] Source Where Group Having Windows QueryOrder Limits),
+    production!(Semicolon: {Semicolon} => {Semicolon}),
+    production!(Semicolon: _ =>),
+    production!(Items: _ => Item MoreItems),
+    production!(MoreItems: {Comma} => {Comma} Item MoreItems),
+    production!(MoreItems: _ =>),
+    production!(Item: {Asterisk} => {Asterisk}),
+    production!(Item: _ => Condition ItemAlias),
+    production!(ItemAlias: [As] => [As] (Token Name)),
+    production!(ItemAlias: (Token Name) => (Token Name)),
+    production!(ItemAlias: _ =>),
+    production!(Source: {OpenParenthesis} => {OpenParenthesis} (Mark QueryBegins) (Mark Deeper) Query (Mark Shallower) (Mark QueryEnds)
         {CloseParenthesis} DerivedAlias),
-    row!(Source: (Token Name) => (Name Table) SourceAlias),
-    row!(DerivedAlias: [As] => [As] (Name Alias)),
-    row!(DerivedAlias: (Token Name) => (Name Alias)),
-    row!(SourceAlias: [As] => [As] (Name Alias)),
-    row!(SourceAlias: (Token Name) => (Name Alias)),
-    row!(SourceAlias: _ =>),
-    row!(Where: [Where] => [Where] Condition),
-    row!(Where: _ =>),
-    row!(Group: [Group] => [Group] [By] Element MoreElements),
-    row!(Group: _ =>),
-    row!(Element: [Grouping] => [Grouping] [Sets] {OpenParenthesis} (Mark Deeper) Set MoreSets (Mark Shallower) {CloseParenthesis}),
-    row!(Element: _ => LoneSet),
-    row!(MoreElements: {Comma} => {Comma} Element MoreElements),
-    row!(MoreElements: _ =>),
-    row!(LoneSet: [Rollup] => [Rollup] Parts),
-    row!(LoneSet: [Cube] => [Cube] Parts),
-    row!(LoneSet: (Token Name) => Column),
-    row!(Set: {OpenParenthesis} => {OpenParenthesis} SetInside),
-    row!(Set: _ => LoneSet),
-    row!(MoreSets: {Comma} => {Comma} Set MoreSets),
-    row!(MoreSets: _ =>),
-    row!(SetInside: {CloseParenthesis} => {CloseParenthesis}),
-    row!(SetInside: _ => (Mark Deeper) Columns (Mark Shallower) {CloseParenthesis}),
-    row!(Parts: {OpenParenthesis} => {OpenParenthesis} (Mark Deeper) ColumnPart MoreParts (Mark Shallower) {CloseParenthesis}),
-    row!(ColumnPart: {OpenParenthesis} => {OpenParenthesis} (Mark Deeper) Columns (Mark Shallower) {CloseParenthesis}),
-    row!(ColumnPart: (Token Name) => Column),
-    row!(MoreParts: {Comma} => {Comma} ColumnPart MoreParts),
-    row!(MoreParts: _ =>),
-    row!(Columns: _ => Column MoreColumns),
-    row!(MoreColumns: {Comma} => {Comma} Column MoreColumns),
-    row!(MoreColumns: _ =>),
-    row!(Column: (Token Name) => (Name Word) Qualified),
-    row!(Qualified: {Dot} => {Dot} (Token Name)),
-    row!(Qualified: _ =>),
-    row!(Having: [Having] => [Having] Condition),
-    row!(Having: _ =>),
-    row!(Windows: [Window] => [Window] Entry MoreEntries),
-    row!(Windows: _ =>),
-    row!(Entry: (Token Name) => (Name Entry) [As] {OpenParenthesis} Window),
-    row!(MoreEntries: {Comma} => {Comma} Entry MoreEntries),
-    row!(MoreEntries: _ =>),
-    row!(Window: {CloseParenthesis} => {CloseParenthesis}),
-    row!(Window: _ => (Mark Deeper) Copied Partition WindowOrder Frame (Mark Shallower) {CloseParenthesis}),
-    row!(Copied: (Token Name) => (Name Copy)),
-    row!(Copied: _ =>),
-    row!(Partition: [Partition] => [Partition] [By] Condition MoreConditions),
-    row!(Partition: _ =>),
-    row!(WindowOrder: [Order] => [Order] [By] Key MoreKeys),
-    row!(WindowOrder: _ =>),
-    row!(Key: _ => Condition Direction Nulls),
-    row!(MoreKeys: {Comma} => {Comma} Key MoreKeys),
-    row!(MoreKeys: _ =>),
-    row!(QueryOrder: [Order] => [Order] [By] OutputKey MoreOutputKeys),
-    row!(QueryOrder: _ =>),
-    row!(OutputKey: _ => (Mark KeyBegins) Condition (Mark KeyEnds) Direction Nulls),
-    row!(MoreOutputKeys: {Comma} => {Comma} OutputKey MoreOutputKeys),
-    row!(MoreOutputKeys: _ =>),
-    row!(Direction: [Asc] => [Asc]),
-    row!(Direction: [Desc] => [Desc]),
-    row!(Direction: _ =>),
-    row!(Nulls: [Nulls] => [Nulls] FirstOrLast),
-    row!(Nulls: _ =>),
-    row!(FirstOrLast: [First] => [First]),
-    row!(FirstOrLast: [Last] => [Last]),
-    row!(Limits: [Limit] => [Limit] (Token Number) Offset),
-    row!(Limits: [Offset] => [Offset] (Token Number) Limit),
-    row!(Limits: _ =>),
-    row!(Offset: [Offset] => [Offset] (Token Number)),
-    row!(Offset: _ =>),
-    row!(Limit: [Limit] => [Limit] (Token Number)),
-    row!(Limit: _ =>),
-    row!(Frame: [Rows] => [Rows] Extent Exclusion),
-    row!(Frame: [Range] => [Range] Extent Exclusion),
-    row!(Frame: [Groups] => [Groups] Extent Exclusion),
-    row!(Frame: _ =>),
-    row!(Extent: [Between] => [Between] Bound [And] Bound),
-    row!(Extent: _ => Bound),
-    row!(Bound: [Unbounded] => [Unbounded] Side),
-    row!(Bound: [Current] => [Current] [Row]),
-    row!(Bound: (Token Number) => (Token Number) Side),
-    row!(Side: [Preceding] => [Preceding]),
-    row!(Side: [Following] => [Following]),
-    row!(Exclusion: [Exclude] => [Exclude] Excluded),
-    row!(Exclusion: _ =>),
-    row!(Excluded: [Current] => [Current] [Row]),
-    row!(Excluded: [Group] => [Group]),
-    row!(Excluded: [Ties] => [Ties]),
-    row!(Excluded: [No] => [No] [Others]),
-    row!(Condition: _ => Conjunction MoreConjunctions),
-    row!(MoreConjunctions: [Or] => [Or] Conjunction MoreConjunctions),
-    row!(MoreConjunctions: _ =>),
-    row!(Conjunction: _ => Negation MoreNegations),
-    row!(MoreNegations: [And] => [And] Negation MoreNegations),
-    row!(MoreNegations: _ =>),
-    row!(Negation: [Not] => [Not] (Mark Deeper) Negation (Mark Shallower)),
-    row!(Negation: _ => Comparison NullTest),
-    row!(NullTest: [Is] => [Is] OptionalNot [Null]),
-    row!(NullTest: _ =>),
-    row!(OptionalNot: [Not] => [Not]),
-    row!(OptionalNot: _ =>),
-    row!(Comparison: _ => Range Compared),
-    row!(Compared: {Equal} => {Equal} Range),
-    row!(Compared: {NotEqual} => {NotEqual} Range),
-    row!(Compared: {Less} => {Less} Range),
-    row!(Compared: {LessOrEqual} => {LessOrEqual} Range),
-    row!(Compared: {Greater} => {Greater} Range),
-    row!(Compared: {GreaterOrEqual} => {GreaterOrEqual} Range),
-    row!(Compared: _ =>),
-    row!(Range: _ => Sum RangeTest),
-    row!(RangeTest: [Not] => [Not] NegatedTest),
-    row!(RangeTest: [Between] => NegatedTest),
-    row!(RangeTest: [In] => NegatedTest),
-    row!(RangeTest: _ =>),
-    row!(NegatedTest: [Between] => [Between] Sum [And] Sum),
-    row!(NegatedTest: [In] => [In] {OpenParenthesis} (Mark Deeper) Sum MoreListed (Mark Shallower) {CloseParenthesis}),
-    row!(MoreListed: {Comma} => {Comma} Sum MoreListed),
-    row!(MoreListed: _ =>),
-    row!(Sum: _ => Product MoreProducts),
-    row!(MoreProducts: {Plus} => {Plus} Product MoreProducts),
-    row!(MoreProducts: {Minus} => {Minus} Product MoreProducts),
-    row!(MoreProducts: _ =>),
-    row!(Product: _ => Signed MoreFactors),
-    row!(MoreFactors: {Asterisk} => {Asterisk} Signed MoreFactors),
-    row!(MoreFactors: _ =>),
-    row!(Signed: {Plus} => {Plus} (Mark Deeper) Signed (Mark Shallower)),
-    row!(Signed: {Minus} => {Minus} (Mark Deeper) Signed (Mark Shallower)),
-    row!(Signed: _ => Primary),
-    row!(Primary: (Token Number) => (Token Number)),
-    row!(Primary: (Token Text) => (Token Text)),
-    row!(Primary: [Null] => [Null]),
-    row!(Primary: (Token Name) => (Name Word) BehindName),
-    row!(Primary: [Grouping] => [Grouping] {OpenParenthesis} (Mark Deeper) Columns (Mark Shallower) {CloseParenthesis}),
-    row!(Primary: {OpenParenthesis} => {OpenParenthesis} (Mark Deeper) Condition (Mark Shallower) {CloseParenthesis}),
-    row!(BehindName: {Dot} => {Dot} (Token Name)),
-    row!(BehindName: {OpenParenthesis} => {OpenParenthesis} Arguments Filter Over),
-    row!(BehindName: _ =>),
-    row!(Arguments: {CloseParenthesis} => {CloseParenthesis}),
-    row!(Arguments: {Asterisk} => (Mark Deeper) {Asterisk} (Mark Shallower) {CloseParenthesis}),
-    row!(Arguments: _ => (Mark Deeper) Condition MoreConditions (Mark Shallower) {CloseParenthesis}),
-    row!(MoreConditions: {Comma} => {Comma} Condition MoreConditions),
-    row!(MoreConditions: _ =>),
-    row!(Filter: [Filter] => [Filter] {OpenParenthesis} (Mark Deeper) [Where] Condition (Mark Shallower) {CloseParenthesis}),
-    row!(Filter: _ =>),
-    row!(Over: [Over] => [Over] OverWhat),
-    row!(Over: _ =>),
-    row!(OverWhat: {OpenParenthesis} => {OpenParenthesis} Window),
-    row!(OverWhat: (Token Name) => (Name Use)),
+    production!(Source: (Token Name) => (Name Table) SourceAlias),
+    production!(DerivedAlias: [As] => [As] (Name Alias)),
+    production!(DerivedAlias: (Token Name) => (Name Alias)),
+    production!(SourceAlias: [As] => [As] (Name Alias)),
+    production!(SourceAlias: (Token Name) => (Name Alias)),
+    production!(SourceAlias: _ =>),
+    production!(Where: [Where] => [Where] Condition),
+    production!(Where: _ =>),
+    production!(Group: [Group] => [Group] [By] Element MoreElements),
+    production!(Group: _ =>),
+    production!(Element: [Grouping] => [Grouping] [Sets] {OpenParenthesis} (Mark Deeper) Set MoreSets (Mark Shallower) {CloseParenthesis}),
+    production!(Element: _ => LoneSet),
+    production!(MoreElements: {Comma} => {Comma} Element MoreElements),
+    production!(MoreElements: _ =>),
+    production!(LoneSet: [Rollup] => [Rollup] Parts),
+    production!(LoneSet: [Cube] => [Cube] Parts),
+    production!(LoneSet: (Token Name) => Column),
+    production!(Set: {OpenParenthesis} => {OpenParenthesis} SetInside),
+    production!(Set: _ => LoneSet),
+    production!(MoreSets: {Comma} => {Comma} Set MoreSets),
+    production!(MoreSets: _ =>),
+    production!(SetInside: {CloseParenthesis} => {CloseParenthesis}),
+    production!(SetInside: _ => (Mark Deeper) Columns (Mark Shallower) {CloseParenthesis}),
+    production!(Parts: {OpenParenthesis} => {OpenParenthesis} (Mark Deeper) ColumnPart MoreParts (Mark Shallower) {CloseParenthesis}),
+    production!(ColumnPart: {OpenParenthesis} => {OpenParenthesis} (Mark Deeper) Columns (Mark Shallower) {CloseParenthesis}),
+    production!(ColumnPart: (Token Name) => Column),
+    production!(MoreParts: {Comma} => {Comma} ColumnPart MoreParts),
+    production!(MoreParts: _ =>),
+    production!(Columns: _ => Column MoreColumns),
+    production!(MoreColumns: {Comma} => {Comma} Column MoreColumns),
+    production!(MoreColumns: _ =>),
+    production!(Column: (Token Name) => (Name Identifier) Qualified),
+    production!(Qualified: {Dot} => {Dot} (Token Name)),
+    production!(Qualified: _ =>),
+    production!(Having: [Having] => [Having] Condition),
+    production!(Having: _ =>),
+    production!(Windows: [Window] => [Window] Entry MoreEntries),
+    production!(Windows: _ =>),
+    production!(Entry: (Token Name) => (Name Entry) [As] {OpenParenthesis} Window),
+    production!(MoreEntries: {Comma} => {Comma} Entry MoreEntries),
+    production!(MoreEntries: _ =>),
+    production!(Window: {CloseParenthesis} => {CloseParenthesis}),
+    production!(Window: _ => (Mark Deeper) Copied Partition WindowOrder Frame (Mark Shallower) {CloseParenthesis}),
+    production!(Copied: (Token Name) => (Name Copy)),
+    production!(Copied: _ =>),
+    production!(Partition: [Partition] => [Partition] [By] Condition MoreConditions),
+    production!(Partition: _ =>),
+    production!(WindowOrder: [Order] => [Order] [By] Key MoreKeys),
+    production!(WindowOrder: _ =>),
+    production!(Key: _ => Condition Direction Nulls),
+    production!(MoreKeys: {Comma} => {Comma} Key MoreKeys),
+    production!(MoreKeys: _ =>),
+    production!(QueryOrder: [Order] => [Order] [By] OutputKey MoreOutputKeys),
+    production!(QueryOrder: _ =>),
+    production!(OutputKey: _ => (Mark KeyBegins) Condition (Mark KeyEnds) Direction Nulls),
+    production!(MoreOutputKeys: {Comma} => {Comma} OutputKey MoreOutputKeys),
+    production!(MoreOutputKeys: _ =>),
+    production!(Direction: [Asc] => [Asc]),
+    production!(Direction: [Desc] => [Desc]),
+    production!(Direction: _ =>),
+    production!(Nulls: [Nulls] => [Nulls] FirstOrLast),
+    production!(Nulls: _ =>),
+    production!(FirstOrLast: [First] => [First]),
+    production!(FirstOrLast: [Last] => [Last]),
+    production!(Limits: [Limit] => [Limit] (Token Number) Offset),
+    production!(Limits: [Offset] => [Offset] (Token Number) Limit),
+    production!(Limits: _ =>),
+    production!(Offset: [Offset] => [Offset] (Token Number)),
+    production!(Offset: _ =>),
+    production!(Limit: [Limit] => [Limit] (Token Number)),
+    production!(Limit: _ =>),
+    production!(Frame: [Rows] => [Rows] Extent Exclusion),
+    production!(Frame: [Range] => [Range] Extent Exclusion),
+    production!(Frame: [Groups] => [Groups] Extent Exclusion),
+    production!(Frame: _ =>),
+    production!(Extent: [Between] => [Between] Bound [And] Bound),
+    production!(Extent: _ => Bound),
+    production!(Bound: [Unbounded] => [Unbounded] Side),
+    production!(Bound: [Current] => [Current] [Row]),
+    production!(Bound: (Token Number) => (Token Number) Side),
+    production!(Side: [Preceding] => [Preceding]),
+    production!(Side: [Following] => [Following]),
+    production!(Exclusion: [Exclude] => [Exclude] Excluded),
+    production!(Exclusion: _ =>),
+    production!(Excluded: [Current] => [Current] [Row]),
+    production!(Excluded: [Group] => [Group]),
+    production!(Excluded: [Ties] => [Ties]),
+    production!(Excluded: [No] => [No] [Others]),
+    production!(Condition: _ => Conjunction MoreConjunctions),
+    production!(MoreConjunctions: [Or] => [Or] Conjunction MoreConjunctions),
+    production!(MoreConjunctions: _ =>),
+    production!(Conjunction: _ => Negation MoreNegations),
+    production!(MoreNegations: [And] => [And] Negation MoreNegations),
+    production!(MoreNegations: _ =>),
+    production!(Negation: [Not] => [Not] (Mark Deeper) Negation (Mark Shallower)),
+    production!(Negation: _ => Comparison NullTest),
+    production!(NullTest: [Is] => [Is] OptionalNot [Null]),
+    production!(NullTest: _ =>),
+    production!(OptionalNot: [Not] => [Not]),
+    production!(OptionalNot: _ =>),
+    production!(Comparison: _ => Range Compared),
+    production!(Compared: {Equal} => {Equal} Range),
+    production!(Compared: {NotEqual} => {NotEqual} Range),
+    production!(Compared: {Less} => {Less} Range),
+    production!(Compared: {LessOrEqual} => {LessOrEqual} Range),
+    production!(Compared: {Greater} => {Greater} Range),
+    production!(Compared: {GreaterOrEqual} => {GreaterOrEqual} Range),
+    production!(Compared: _ =>),
+    production!(Range: _ => Sum RangeTest),
+    production!(RangeTest: [Not] => [Not] NegatedTest),
+    production!(RangeTest: [Between] => NegatedTest),
+    production!(RangeTest: [In] => NegatedTest),
+    production!(RangeTest: _ =>),
+    production!(NegatedTest: [Between] => [Between] Sum [And] Sum),
+    production!(NegatedTest: [In] => [In] {OpenParenthesis} (Mark Deeper) Sum MoreListed (Mark Shallower) {CloseParenthesis}),
+    production!(MoreListed: {Comma} => {Comma} Sum MoreListed),
+    production!(MoreListed: _ =>),
+    production!(Sum: _ => Product MoreProducts),
+    production!(MoreProducts: {Plus} => {Plus} Product MoreProducts),
+    production!(MoreProducts: {Minus} => {Minus} Product MoreProducts),
+    production!(MoreProducts: _ =>),
+    production!(Product: _ => Signed MoreFactors),
+    production!(MoreFactors: {Asterisk} => {Asterisk} Signed MoreFactors),
+    production!(MoreFactors: _ =>),
+    production!(Signed: {Plus} => {Plus} (Mark Deeper) Signed (Mark Shallower)),
+    production!(Signed: {Minus} => {Minus} (Mark Deeper) Signed (Mark Shallower)),
+    production!(Signed: _ => Primary),
+    production!(Primary: (Token Number) => (Token Number)),
+    production!(Primary: (Token Text) => (Token Text)),
+    production!(Primary: [Null] => [Null]),
+    production!(Primary: (Token Name) => (Name Identifier) BehindName),
+    production!(Primary: [Grouping] => [Grouping] {OpenParenthesis} (Mark Deeper) Columns (Mark Shallower) {CloseParenthesis}),
+    production!(Primary: {OpenParenthesis} => {OpenParenthesis} (Mark Deeper) Condition (Mark Shallower) {CloseParenthesis}),
+    production!(BehindName: {Dot} => {Dot} (Token Name)),
+    production!(BehindName: {OpenParenthesis} => {OpenParenthesis} Arguments Filter Over),
+    production!(BehindName: _ =>),
+    production!(Arguments: {CloseParenthesis} => {CloseParenthesis}),
+    production!(Arguments: {Asterisk} => (Mark Deeper) {Asterisk} (Mark Shallower) {CloseParenthesis}),
+    production!(Arguments: _ => (Mark Deeper) Condition MoreConditions (Mark Shallower) {CloseParenthesis}),
+    production!(MoreConditions: {Comma} => {Comma} Condition MoreConditions),
+    production!(MoreConditions: _ =>),
+    production!(Filter: [Filter] => [Filter] {OpenParenthesis} (Mark Deeper) [Where] Condition (Mark Shallower) {CloseParenthesis}),
+    production!(Filter: _ =>),
+    production!(Over: [Over] => [Over] OverWhat),
+    production!(Over: _ =>),
+    production!(OverWhat: {OpenParenthesis} => {OpenParenthesis} Window),
+    production!(OverWhat: (Token Name) => (Name Use)),
 ];

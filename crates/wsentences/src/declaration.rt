@@ -44,11 +44,7 @@ fn is_table_line(line: &[u8]) -> bool {
 
 // Whether a word says what a column holds.
 fn is_kind(word: &[u8]) -> bool {
-    match word {
-        b"integer" => true,
-        b"text" => true,
-        _ => false,
-    }
+    matches!(word, b"integer" | b"text")
 }
 
 // Whether a line declares a column.
@@ -83,7 +79,7 @@ fn push_numbered(
 // Adds the first line that is none of a declaration.
 fn push_wrong_line(alloc: Global, text: &mut String, bytes: &[u8]) -> Result<(), AllocError> {
     let mut number = 0u64;
-    'lines: for line in bytes.split(|byte| *byte == b'\n') {
+    for line in bytes.split(|byte| *byte == b'\n') {
         number = number.saturating_add(1);
         if !is_right(number, line) {
             return push_numbered(alloc, text, number, line);
@@ -112,7 +108,7 @@ fn column_of(line: &[u8]) -> &[u8] {
 fn push_repeated(alloc: Global, text: &mut String, bytes: &[u8]) -> Result<(), AllocError> {
     let mut names = BTreeSet::new(alloc);
     let mut number = 1u64;
-    'lines: for line in bytes.split(|byte| *byte == b'\n').skip(1) {
+    for line in bytes.split(|byte| *byte == b'\n').skip(1) {
         number = number.saturating_add(1);
         if !names.insert(column_of(line))? {
             return push_numbered(alloc, text, number, line);

@@ -21,7 +21,7 @@ fn take_record(reader: &mut Reader<&[u8]>, record: &mut ByteRecord) -> bool {
 
 // Takes a row below the header, by its number from 1.
 fn take_row(reader: &mut Reader<&[u8]>, record: &mut ByteRecord, row: u32) -> bool {
-    'rows: for _ in 0..row {
+    for _ in 0..row {
         if !take_record(reader, record) {
             return false;
         }
@@ -70,7 +70,7 @@ fn find_header(alloc: Global, bytes: &[u8]) -> Option<ByteRecord> {
 
 // The place of the field of a header that is the one of a fault.
 fn wrong_name(schema: &Schema, header: &ByteRecord, fault: SegmentFault) -> Option<usize> {
-    'fields: for place in 0..header.len() {
+    for place in 0..header.len() {
         if is_wrong_name(schema, header, place, fault) {
             return Some(place);
         }
@@ -109,7 +109,7 @@ fn is_named(header: &ByteRecord, name: &str) -> bool {
 fn missing_column<'s>(schema: &'s Schema, header: &ByteRecord) -> Option<&'s Column>
     ensures { IfSome result (λ column. Contains schema.now.columns column.now) }
 {
-    'columns: for column in schema.columns() {
+    for column in schema.columns() {
         if !is_named(header, column.name()) {
             return Some(column);
         }
@@ -141,7 +141,7 @@ fn holds_integers(schema: &Schema, name: &[u8]) -> bool {
     let Ok(name) = str::from_utf8(name) else {
         return false;
     };
-    'columns: for column in schema.columns() {
+    for column in schema.columns() {
         if column.name() == name {
             return column.kind() == Kind::Integer;
         }
@@ -195,7 +195,7 @@ fn find_row(alloc: Global, bytes: &[u8], row: u32) -> Option<Row> {
 
 // The place of the field of a row that is the one of a fault.
 fn wrong_place(schema: &Schema, row: &Row, fault: SegmentFault) -> Option<usize> {
-    'fields: for place in 0..row.record.len() {
+    for place in 0..row.record.len() {
         let name = field_at(&row.header, place);
         let field = field_at(&row.record, place);
         if is_wrong_field(schema, name, field, fault) {

@@ -2,7 +2,7 @@
 
 use crate::notes::{Breach, Told};
 use crate::scene::Scene;
-use wclauses::{Clause, Given, function_at, is_grouping};
+use wclauses::{Arguments, Clause, function_at, is_grouping};
 use wscope::Function;
 
 /// The most columns of GROUPING.
@@ -11,20 +11,20 @@ const MOST_GROUPING_COLUMNS: usize = 31;
 /// A function that there is not, or that does not take so many arguments.
 pub(crate) fn wrong_call(scene: &Scene<'_>, number: usize) -> Option<Breach> {
     let token = scene.function(number)?;
-    let Some(function) = function_at(scene.tokens, token) else {
-        return Some((token, Told::Functions));
+    let Some(function) = function_at(scene.written.tokens, token) else {
+        return Some(Breach::at(token, Told::Functions));
     };
-    match scene.given(token) {
-        Given::Star if matches!(function, Function::Count) => None,
-        Given::Star => Some((token, Told::Star)),
-        Given::Listed(count) if function.takes(count) => None,
-        Given::Listed(_) => Some((token, Told::Takes(token, function))),
+    match scene.arguments(token) {
+        Arguments::Star if matches!(function, Function::Count) => None,
+        Arguments::Star => Some(Breach::at(token, Told::Star)),
+        Arguments::Listed(count) if function.takes(count) => None,
+        Arguments::Listed(_) => Some(Breach::at(token, Told::Takes(token, function))),
     }
 }
 
 // Whether a token is GROUPING of columns in this SELECT.
 fn is_own_grouping(scene: &Scene<'_>, token: usize) -> bool {
-    is_grouping(scene.tokens, token) && scene.has_token(token)
+    is_grouping(scene.written.tokens, token) && scene.has_token(token)
 }
 
 /// GROUPING of more columns than it takes.
@@ -32,15 +32,18 @@ pub(crate) fn long_grouping(scene: &Scene<'_>, token: usize) -> Option<Breach> {
     if !is_own_grouping(scene, token) {
         return None;
     }
-    match scene.given(token) {
-        Given::Listed(count) if count > MOST_GROUPING_COLUMNS => Some((token, Told::LongGrouping)),
+    match scene.arguments(token) {
+        Arguments::Listed(count) if count > MOST_GROUPING_COLUMNS => Some(Breach::at(
+            token,
+            Told::LongGrouping,
+        )),
         _ => None,
     }
 }
 
 // Whether no call with OVER may stand where a token does.
 fn bars_windows(scene: &Scene<'_>, token: usize) -> bool {
-    let Some(standing) = scene.clauses.standing(token) else {
+    let Some(standing) = scene.written.clauses.standing(token) else {
         return false;
     };
     match standing.clause {
@@ -54,7 +57,7 @@ fn bars_windows(scene: &Scene<'_>, token: usize) -> bool {
 /// A call with OVER where none may stand, or a window function without OVER.
 pub(crate) fn misplaced_function(scene: &Scene<'_>, number: usize) -> Option<Breach> {
     let token = scene.function(number)?;
-    let function = function_at(scene.tokens, token)?;
+    let function = function_at(scene.written.tokens, token)?;
     let is_right = if scene.has_over(token) {
         !bars_windows(scene, token)
     } else {
@@ -63,17 +66,17 @@ pub(crate) fn misplaced_function(scene: &Scene<'_>, number: usize) -> Option<Bre
     if is_right {
         return None;
     }
-    Some((token, Told::Nothing))
+    Some(Breach::at(token, Told::Nothing))
 }
 
 // What is broken by an aggregate without OVER, or GROUPING, where a token stands.
 fn misplaced_at(scene: &Scene<'_>, token: usize) -> Option<Breach> {
-    let standing = scene.clauses.standing(token)?;
+    let standing = scene.written.clauses.standing(token)?;
     if standing.clause == Clause::Condition {
-        return Some((token, Told::Condition));
+        return Some(Breach::at(token, Told::Condition));
     }
     if standing.is_in_aggregate {
-        return Some((token, Told::Nothing));
+        return Some(Breach::at(token, Told::Nothing));
     }
     None
 }
@@ -98,9 +101,9 @@ pub(crate) fn misplaced_grouping(scene: &Scene<'_>, token: usize) -> Option<Brea
 /// A function with FILTER that is no aggregate.
 pub(crate) fn wrong_filter(scene: &Scene<'_>, number: usize) -> Option<Breach> {
     let token = scene.function(number)?;
-    let function = function_at(scene.tokens, token)?;
+    let function = function_at(scene.written.tokens, token)?;
     if function.is_aggregate() || !scene.has_filter(token) {
         return None;
     }
-    Some((token, Told::Nothing))
+    Some(Breach::at(token, Told::Nothing))
 }

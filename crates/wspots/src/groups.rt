@@ -6,7 +6,7 @@ use wclauses::{Clause, is_star};
 
 // Whether only columns of GROUP BY may stand where a token does, keys of ORDER BY that are items aside.
 fn wants_grouped(scene: &Scene<'_>, token: usize) -> bool {
-    let Some(standing) = scene.clauses.standing(token) else {
+    let Some(standing) = scene.written.clauses.standing(token) else {
         return false;
     };
     if standing.is_in_grouping {
@@ -27,14 +27,14 @@ pub(crate) fn ungrouped_column(scene: &Scene<'_>, number: usize) -> Option<Breac
     if scene.is_output(number, &named) {
         return None;
     }
-    Some((named.token, Told::Ungrouped))
+    Some(Breach::at(named.token, Told::Ungrouped))
 }
 
 /// The item `*` of a grouped SELECT, where it stands for a column that is not in GROUP BY.
 pub(crate) fn ungrouped_star(scene: &Scene<'_>, token: usize) -> Option<Breach> {
     let place = scene.ungrouped?;
-    if !is_star(scene.tokens, token) || !scene.has_token(token) {
+    if !is_star(scene.written.tokens, token) || !scene.has_token(token) {
         return None;
     }
-    Some((token, Told::UngroupedStar(place)))
+    Some(Breach::at(token, Told::UngroupedStar(place)))
 }

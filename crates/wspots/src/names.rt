@@ -33,20 +33,20 @@ pub(crate) struct Spot {
 // A table that is not the declared one.
 fn other_table(scene: &Scene<'_>, number: usize) -> Option<Breach> {
     let mark = scene.mark_of(number, Role::Table)?;
-    if name_at(scene.tokens, mark.token) == Some(scene.schema.table()) {
+    if name_at(scene.written.tokens, mark.token) == Some(scene.written.schema.table()) {
         return None;
     }
-    Some((mark.token, Told::Table))
+    Some(Breach::at(mark.token, Told::Table))
 }
 
 // What stands before a dot, and is not the name of the source.
 fn other_source(scene: &Scene<'_>, number: usize) -> Option<Breach> {
-    let mark = scene.mark_of(number, Role::Word)?;
+    let mark = scene.mark_of(number, Role::Identifier)?;
     let qualifier = scene.column(number)?.qualifier?;
     if qualifier == scene.alias() {
         return None;
     }
-    Some((mark.token, Told::Source))
+    Some(Breach::at(mark.token, Told::Source))
 }
 
 // A column that the source lacks.
@@ -55,7 +55,7 @@ fn missing_column(scene: &Scene<'_>, number: usize) -> Option<Breach> {
     if has_column(scene.columns, named.name) || scene.is_output(number, &named) {
         return None;
     }
-    Some((named.token, Told::Columns))
+    Some(Breach::at(named.token, Told::Columns))
 }
 
 // The place of the second column of a name.
@@ -69,11 +69,11 @@ fn ambiguous_name(scene: &Scene<'_>, number: usize) -> Option<Breach> {
     let named = scene.column(number)?;
     if scene.is_output(number, &named) {
         let (one, other) = scene.outputs.two_called(named.name)?;
-        return Some((named.token, Told::TwoItems(one, other)));
+        return Some(Breach::at(named.token, Told::TwoItems(one, other)));
     }
     let first = place_named(scene.columns, named.name);
     let second = second_named(scene.columns, named.name, first)?;
-    Some((named.token, Told::TwoColumns(first, second)))
+    Some(Breach::at(named.token, Told::TwoColumns(first, second)))
 }
 
 // Whether the mark before one is the WINDOW entry that it belongs to.
@@ -101,33 +101,33 @@ fn unknown_window(scene: &Scene<'_>, number: usize) -> Option<Breach> {
         Role::Copy => entry_before(scene, number),
         _ => None,
     };
-    let name = name_at(scene.tokens, mark.token)?;
+    let name = name_at(scene.written.tokens, mark.token)?;
     match scene.entries.get(name) {
-        Some(entry) if *entry < copier.unwrap_or(scene.marks.len()) => None,
-        _ => Some((mark.token, windows_told(copier))),
+        Some(entry) if *entry < copier.unwrap_or(scene.written.marks.len()) => None,
+        _ => Some(Breach::at(mark.token, windows_told(copier))),
     }
 }
 
 // A WINDOW entry whose name an earlier one has.
 fn repeated_window(scene: &Scene<'_>, number: usize) -> Option<Breach> {
     let mark = scene.mark_of(number, Role::Entry)?;
-    let name = name_at(scene.tokens, mark.token)?;
+    let name = name_at(scene.written.tokens, mark.token)?;
     let first = scene.entries.get(name)?;
     if *first == number {
         return None;
     }
-    Some((mark.token, Told::Nothing))
+    Some(Breach::at(mark.token, Told::Nothing))
 }
 
 // A literal in ORDER BY that is no place of an item.
 fn wrong_place(scene: &Scene<'_>, number: usize) -> Option<Breach> {
     let begin = scene.mark_of(number, Role::KeyBegin)?;
     let end = scene.mark_of(number.saturating_add(1), Role::KeyEnd)?;
-    let key = scene.tokens.get(begin.token..end.token)?;
+    let key = scene.written.tokens.get(begin.token..end.token)?;
     if !is_wrong_key(key, scene.outputs.len()) {
         return None;
     }
-    Some((begin.token, Told::Items))
+    Some(Breach::at(begin.token, Told::Items))
 }
 
 // What breaks a rule at the mark of this number.
@@ -163,7 +163,7 @@ fn breach_at_token(scene: &Scene<'_>, number: usize, rule: Rule) -> Option<Breac
 
 // The first name of a SELECT that breaks a rule.
 fn first_name(scene: &Scene<'_>, rule: Rule) -> Option<Breach> {
-    'marks: for number in 0..scene.marks.len() {
+    for number in 0..scene.written.marks.len() {
         let breach = breach_at(scene, number, rule);
         if breach.is_some() {
             return breach;
@@ -180,7 +180,7 @@ fn first_token(scene: &Scene<'_>, rule: Rule) -> Option<Breach> {
     ) {
         return None;
     }
-    'tokens: for number in 0..scene.tokens.len() {
+    for number in 0..scene.written.tokens.len() {
         let breach = breach_at_token(scene, number, rule);
         if breach.is_some() {
             return breach;
@@ -192,7 +192,7 @@ fn first_token(scene: &Scene<'_>, rule: Rule) -> Option<Breach> {
 // The one of two that stands before the other.
 fn earlier(one: Option<Breach>, other: Option<Breach>) -> Option<Breach> {
     match (one, other) {
-        (Some(one), Some(other)) if other.0 < one.0 => Some(other),
+        (Some(one), Some(other)) if other.token < one.token => Some(other),
         (Some(one), _) => Some(one),
         (None, other) => other,
     }
@@ -200,19 +200,22 @@ fn earlier(one: Option<Breach>, other: Option<Breach>) -> Option<Breach> {
 
 // The first place in a SELECT where a rule is broken, and what is told of it.
 fn find_in(alloc: Global, scene: &Scene<'_>, rule: Rule) -> Result<Option<Spot>, AllocError> {
-    let Some((token, told)) = earlier(first_name(scene, rule), first_token(scene, rule)) else {
+    let Some(breach) = earlier(first_name(scene, rule), first_token(scene, rule)) else {
         return Ok(None);
     };
     let mut note = String::new(alloc);
-    push_told(alloc, &mut note, scene, told)?;
-    Ok(Some(Spot { token, note }))
+    push_told(alloc, &mut note, scene, breach.told)?;
+    Ok(Some(Spot {
+        token: breach.token,
+        note,
+    }))
 }
 
 // The SELECTs of a query, the outermost first.
 fn selects_of<'a>(alloc: Global, query: &'a Query) -> Result<Vec<&'a Query>, AllocError> {
     let mut selects = Vec::new(alloc);
     let mut inner = query;
-    'selects: for _ in 0..MOST_QUERIES {
+    for _ in 0..MOST_QUERIES {
         selects.push(inner)?;
         match &inner.source {
             Source::Derived { query, .. } => inner = query,
@@ -244,7 +247,7 @@ fn find_written(
 ) -> Result<Option<Spot>, AllocError> {
     let selects = selects_of(alloc, query)?;
     let mut columns = declared_columns(alloc, written.schema)?;
-    'selects: for (level, select) in selects.iter().enumerate().rev() {
+    for (level, select) in selects.iter().enumerate().rev() {
         let found = find_over(alloc, written, columns.as_slice(), select, level, rule)?;
         if found.is_some() {
             return Ok(found);

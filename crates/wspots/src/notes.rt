@@ -48,15 +48,28 @@ pub(crate) enum Told {
     Nothing,
 }
 
-/// A token by its number, and what is told of it.
-pub(crate) type Breach = (usize, Told);
+/// Where a rule is broken.
+#[derive(Clone, Copy)]
+pub(crate) struct Breach {
+    /// The number of the token.
+    pub(crate) token: usize,
+    /// What is told of it.
+    pub(crate) told: Told,
+}
+
+impl Breach {
+    /// At the token of this number, of which this is told.
+    pub(crate) fn at(token: usize, told: Told) -> Breach {
+        Breach { token, told }
+    }
+}
 
 // Adds the name of the source and its columns.
 fn push_columns(alloc: Global, text: &mut String, scene: &Scene<'_>) -> Result<(), AllocError> {
     push_text(text, scene.alias())?;
     text.push_str(" has ")?;
     let mut names = String::new(alloc);
-    'columns: for (place, column) in scene.columns.iter().enumerate() {
+    for (place, column) in scene.columns.iter().enumerate() {
         if place > 0 {
             names.push_str(", ")?;
         }
@@ -68,7 +81,7 @@ fn push_columns(alloc: Global, text: &mut String, scene: &Scene<'_>) -> Result<(
 // The name of the WINDOW entry at the mark of this number, if it is the first of its name.
 fn entry_at<'a>(scene: &Scene<'a>, number: usize) -> Option<&'a str> {
     let mark = scene.mark_of(number, Role::Entry)?;
-    let name = name_at(scene.tokens, mark.token)?;
+    let name = name_at(scene.written.tokens, mark.token)?;
     match scene.entries.get(name) {
         Some(first) if *first == number => Some(name),
         _ => None,
@@ -78,9 +91,9 @@ fn entry_at<'a>(scene: &Scene<'a>, number: usize) -> Option<&'a str> {
 // The names of the windows before the mark of this number.
 fn windows_before(alloc: Global, scene: &Scene<'_>, number: usize) -> Result<String, AllocError> {
     let mut names = String::new(alloc);
-    'marks: for before in 0..number {
+    for before in 0..number {
         let Some(name) = entry_at(scene, before) else {
-            continue 'marks;
+            continue;
         };
         if !names.is_empty() {
             names.push_str(", ")?;
@@ -92,7 +105,7 @@ fn windows_before(alloc: Global, scene: &Scene<'_>, number: usize) -> Result<Str
 
 // Adds the windows.
 fn push_windows(alloc: Global, text: &mut String, scene: &Scene<'_>) -> Result<(), AllocError> {
-    let names = windows_before(alloc, scene, scene.marks.len())?;
+    let names = windows_before(alloc, scene, scene.written.marks.len())?;
     if names.is_empty() {
         return text.push_str("there is no WINDOW");
     }
@@ -157,7 +170,7 @@ fn push_taken(
     token: usize,
     function: Function,
 ) -> Result<(), AllocError> {
-    push_text(text, name_at(scene.tokens, token).unwrap_or(""))?;
+    push_text(text, name_at(scene.written.tokens, token).unwrap_or(""))?;
     text.push_str(" takes ")?;
     text.push_str(taken_by(function))
 }
@@ -193,7 +206,7 @@ pub(crate) fn push_told(
     match told {
         Told::Table => {
             text.push_str("the table is ")?;
-            push_text(text, scene.schema.table())
+            push_text(text, scene.written.schema.table())
         }
         Told::Source => {
             text.push_str("the source is ")?;

@@ -63,7 +63,7 @@ impl<'a> Outputs<'a> {
             first: BTreeMap::new(alloc),
             other: BTreeMap::new(alloc),
         };
-        'items: for item in items {
+        for item in items {
             outputs.push_item(columns, item)?;
         }
         Ok(outputs)
@@ -88,10 +88,7 @@ impl<'a> Outputs<'a> {
 
     // The first item of a name.
     fn first_called(&self, name: &str) -> Option<Output<'a>> {
-        match self.first.get(name) {
-            Some(output) => Some(*output),
-            None => None,
-        }
+        self.first.get(name).copied()
     }
 
     // Adds an item.
@@ -137,7 +134,7 @@ impl<'a> Outputs<'a> {
             return Ok(());
         }
         self.has_all = true;
-        'columns: for (place, column) in columns.iter().enumerate() {
+        for (place, column) in columns.iter().enumerate() {
             self.push(column.name.as_str(), Some(place), None)?;
         }
         Ok(())
@@ -159,7 +156,7 @@ impl<'a> Outputs<'a> {
 /// How many items a SELECT has over so many columns, `*` written out.
 pub(crate) fn count_items(columns: usize, items: &[Item]) -> usize {
     let mut count = 0usize;
-    'items: for item in items {
+    for item in items {
         let more = match item {
             Item::All => columns,
             Item::Value { .. } => 1,

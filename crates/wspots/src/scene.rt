@@ -3,7 +3,7 @@
 use crate::outputs::Outputs;
 use std::alloc::{AllocError, Global};
 use std::collections::{BTreeMap, BTreeSet};
-use wclauses::{Clause, Clauses, Given, is_called, is_parenthesis, is_symbol, name_at};
+use wclauses::{Arguments, Clause, Clauses, is_called, is_parenthesis, is_symbol, name_at};
 use wgrammar::{Mark, Role};
 use wlexer::{Keyword, Lexeme, Symbol, Token};
 use wquery::{Query, Source};
@@ -16,13 +16,15 @@ pub(crate) struct Written<'a> {
     pub(crate) schema: &'a Schema,
     pub(crate) tokens: &'a [Token],
     pub(crate) marks: &'a [Mark],
+    /// Where the tokens stand.
     pub(crate) clauses: &'a Clauses,
 }
 
 /// One SELECT of a query.
 #[derive(Drop)]
 pub(crate) struct Scene<'a> {
-    pub(crate) schema: &'a Schema,
+    /// The whole text.
+    pub(crate) written: Written<'a>,
     pub(crate) query: &'a Query,
     /// The columns of its source.
     pub(crate) columns: &'a [SourceColumn],
@@ -30,12 +32,6 @@ pub(crate) struct Scene<'a> {
     pub(crate) outputs: Outputs<'a>,
     /// Its WINDOW entries by their names, each the number of its first mark.
     pub(crate) entries: BTreeMap<&'a str, usize>,
-    /// The tokens of the whole text.
-    pub(crate) tokens: &'a [Token],
-    /// The names of the whole text.
-    pub(crate) marks: &'a [Mark],
-    /// Where all tokens of the text stand.
-    pub(crate) clauses: &'a Clauses,
     /// Whether it is grouped.
     pub(crate) is_grouped: bool,
     /// The names of the columns in its GROUP BY.
@@ -85,9 +81,9 @@ fn entries_of<'a>(
     level: usize,
 ) -> Result<BTreeMap<&'a str, usize>, AllocError> {
     let mut entries = BTreeMap::new(alloc);
-    'marks: for (number, mark) in marks.iter().enumerate() {
+    for (number, mark) in marks.iter().enumerate() {
         if mark.level != level || mark.role != Role::Entry {
-            continue 'marks;
+            continue;
         }
         let name = name_at(tokens, mark.token).unwrap_or("");
         if !entries.contains_key(name) {
@@ -104,12 +100,12 @@ fn grouped_of<'a>(
     level: usize,
 ) -> Result<BTreeSet<&'a str>, AllocError> {
     let mut names = BTreeSet::new(alloc);
-    'marks: for mark in written.marks {
-        if mark.level != level || mark.role != Role::Word {
-            continue 'marks;
+    for mark in written.marks {
+        if mark.level != level || mark.role != Role::Identifier {
+            continue;
         }
         if !written.clauses.is_in(mark.token, Clause::Grouping) {
-            continue 'marks;
+            continue;
         }
         if let Some(named) = column_at(written.tokens, mark.token) {
             names.insert(named.name)?;
@@ -120,12 +116,12 @@ fn grouped_of<'a>(
 
 // Whether a SELECT has an aggregate without OVER, those of its derived table aside.
 fn has_group_call(written: Written<'_>, level: usize) -> bool {
-    'marks: for mark in written.marks {
+    for mark in written.marks {
         if mark.level != level
-            || mark.role != Role::Word
+            || mark.role != Role::Identifier
             || !is_called(written.tokens, mark.token)
         {
-            continue 'marks;
+            continue;
         }
         if written
             .clauses
@@ -148,7 +144,7 @@ fn is_grouped(written: Written<'_>, query: &Query, level: usize) -> bool {
 
 // The place of the first column that is none of these names.
 fn first_ungrouped(columns: &[SourceColumn], grouped: &BTreeSet<&str>) -> Option<usize> {
-    'columns: for (place, column) in columns.iter().enumerate() {
+    for (place, column) in columns.iter().enumerate() {
         if !grouped.contains(column.name.as_str()) {
             return Some(place);
         }
@@ -175,10 +171,7 @@ impl<'a> Scene<'a> {
             None
         };
         Ok(Scene {
-            schema: written.schema,
-            tokens: written.tokens,
-            marks: written.marks,
-            clauses: written.clauses,
+            written,
             is_grouped,
             ungrouped,
             query,
@@ -203,7 +196,7 @@ impl<'a> Scene<'a> {
 
     /// The mark of this number, if it is of this SELECT.
     pub(crate) fn mark(&self, number: usize) -> Option<Mark> {
-        match self.marks.get(number) {
+        match self.written.marks.get(number) {
             Some(mark) if mark.level == self.level => Some(*mark),
             _ => None,
         }
@@ -219,14 +212,14 @@ impl<'a> Scene<'a> {
 
     /// The column that the mark of this number names.
     pub(crate) fn column(&self, number: usize) -> Option<Named<'a>> {
-        let mark = self.mark_of(number, Role::Word)?;
-        column_at(self.tokens, mark.token)
+        let mark = self.mark_of(number, Role::Identifier)?;
+        column_at(self.written.tokens, mark.token)
     }
 
     /// The token of the function that the mark of this number names.
     pub(crate) fn function(&self, number: usize) -> Option<usize> {
-        let mark = self.mark_of(number, Role::Word)?;
-        if is_called(self.tokens, mark.token) {
+        let mark = self.mark_of(number, Role::Identifier)?;
+        if is_called(self.written.tokens, mark.token) {
             return Some(mark.token);
         }
         None
@@ -240,7 +233,7 @@ impl<'a> Scene<'a> {
         let Some(end) = self.mark_of(number.saturating_add(1), Role::KeyEnd) else {
             return false;
         };
-        match self.tokens.get(begin.token..end.token) {
+        match self.written.tokens.get(begin.token..end.token) {
             Some(key) => key.iter().filter(|token| !is_parenthesis(token)).count() == 1,
             None => false,
         }
@@ -256,29 +249,41 @@ impl<'a> Scene<'a> {
         self.grouped.contains(name)
     }
 
-    /// What the function at a token is given, or GROUPING.
-    pub(crate) fn given(&self, token: usize) -> Given {
-        self.clauses.pairs.given(self.tokens, token)
+    /// The arguments of the function at a token, or of GROUPING.
+    pub(crate) fn arguments(&self, token: usize) -> Arguments {
+        self.written
+            .clauses
+            .pairs
+            .arguments(self.written.tokens, token)
     }
 
     /// Whether the function at a token has FILTER.
     pub(crate) fn has_filter(&self, token: usize) -> bool {
-        self.clauses.pairs.has_filter(self.tokens, token)
+        self.written
+            .clauses
+            .pairs
+            .has_filter(self.written.tokens, token)
     }
 
     /// Whether the function at a token has OVER.
     pub(crate) fn has_over(&self, token: usize) -> bool {
-        self.clauses.pairs.has_over(self.tokens, token)
+        self.written
+            .clauses
+            .pairs
+            .has_over(self.written.tokens, token)
     }
 
     /// Whether the function at a token is an aggregate without OVER.
     pub(crate) fn is_group_call(&self, token: usize) -> bool {
-        self.clauses.pairs.is_group_call(self.tokens, token)
+        self.written
+            .clauses
+            .pairs
+            .is_group_call(self.written.tokens, token)
     }
 
     /// Whether a token is of this SELECT, and of none in it or around it.
     pub(crate) fn has_token(&self, token: usize) -> bool {
-        match self.clauses.standing(token) {
+        match self.written.clauses.standing(token) {
             Some(standing) => standing.level == self.level,
             None => false,
         }
@@ -301,11 +306,7 @@ fn is_wrong_literal(lexeme: &Lexeme, has_sign: bool, items: usize) -> Option<boo
 }
 
 fn is_sign(lexeme: &Lexeme) -> bool {
-    match lexeme {
-        Lexeme::Symbol(Symbol::Plus) => true,
-        Lexeme::Symbol(Symbol::Minus) => true,
-        _ => false,
-    }
+    matches!(lexeme, Lexeme::Symbol(Symbol::Plus | Symbol::Minus))
 }
 
 /// Whether a key of ORDER BY is a literal that is no place of so many items: a number that is none, another literal, or
@@ -313,7 +314,7 @@ fn is_sign(lexeme: &Lexeme) -> bool {
 pub(crate) fn is_wrong_key(key: &[Token], items: usize) -> bool {
     let mut has_sign = false;
     let mut parts = key.iter().filter(|token| !is_parenthesis(token));
-    'parts: for _ in 0..key.len() {
+    for _ in 0..key.len() {
         let Some(part) = parts.next() else {
             return false;
         };

@@ -1,29 +1,26 @@
 //! Refusals, explained on standard error.
 
 use crate::work::Work;
-use wact::Acted;
+use wact::{Acted, REFUSED};
 use wbatch::Batch;
 use wcommand::Choice;
-use wexplain::{Given, Input, Stream, explain};
+use wexplain::{Given, Input, NameWords, Stream, explain};
 
-/// The status of a refusal.
-const REFUSED: u8 = 1;
-
-// The words of a name in a choice.
-fn name_of<'a>(choice: &Choice<'a>) -> (&'a str, &'a str) {
+// The words of the name in a choice, if it has one.
+fn name_of<'w>(choice: &Choice<'w>) -> Option<NameWords<'w>> {
     match *choice {
-        Choice::Take { origin, number, .. } => (origin, number),
-        Choice::Retire { origin, number, .. } => (origin, number),
-        Choice::Floor { origin, number, .. } => (origin, number),
-        _ => ("", ""),
+        Choice::Take { origin, number, .. } => Some(NameWords { origin, number }),
+        Choice::Retire { origin, number, .. } => Some(NameWords { origin, number }),
+        Choice::Floor { origin, number, .. } => Some(NameWords { origin, number }),
+        _ => None,
     }
 }
 
-// The query of a choice, where it has no other.
-fn query_of<'a>(choice: &Choice<'a>) -> &'a str {
+// The query of a choice, where it has one and no other.
+fn query_of<'w>(choice: &Choice<'w>) -> Option<&'w str> {
     match choice {
-        Choice::Ask { queries, .. } if queries.len() == 1 => queries[0],
-        _ => "",
+        Choice::Ask { queries, .. } if queries.len() == 1 => Some(queries[0]),
+        _ => None,
     }
 }
 
@@ -52,10 +49,10 @@ fn other_of<'w, 'o>(choice: &Choice<'w>, bytes: &'o [u8]) -> Option<Input<'w, 'o
 }
 
 // The store, if there was one.
-fn store_of<'p, 's>(path: &'p str, bytes: &'s Option<Vec<u8>>) -> Option<Input<'p, 's>> {
-    match bytes {
+fn store_of<'w, 'a>(work: &Work<'a, 'w>) -> Option<Input<'w, 'a>> {
+    match work.store {
         Some(bytes) => Some(Input {
-            path,
+            path: work.paths.store,
             bytes: bytes.as_slice(),
         }),
         None => None,
@@ -95,15 +92,13 @@ pub(crate) fn explain_refusal<R: AllocGlobal + Eprint>(
     if !tells_one(choice) {
         return;
     }
-    let (origin, number) = name_of(choice);
     let given = Given {
         table: table_of(work),
-        store: store_of(work.paths.store, work.store),
+        store: store_of(work),
         segment: segment_of(choice, other),
         stream: None,
         other: other_of(choice, other),
-        origin,
-        number,
+        name: name_of(choice),
         query: query_of(choice),
     };
     write_explanation(rt, acted, &given);
@@ -126,9 +121,8 @@ pub(crate) fn explain_stream<R: AllocGlobal + Eprint>(
             place: batch.place(),
         }),
         other: None,
-        origin: "",
-        number: "",
-        query: "",
+        name: None,
+        query: None,
     };
     write_explanation(rt, acted, &given);
 }
