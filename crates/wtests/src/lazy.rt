@@ -9,7 +9,7 @@ use wask::ask;
 use wsegment::{Judged, Schema, SegmentFault};
 use wset::{SegmentSet, Taken};
 use wstore::Node;
-use wvalues::Name;
+use wvalues::{Name, SortKey};
 
 // It reads every cell, in order and through a window.
 const QUERY: &[u8] =
@@ -108,6 +108,37 @@ fn a_lazy_set_makes_cells_when_it_is_asked(rt: HostRuntime) -> Result<(), Fail> 
         b"day,shop,so_far\n1,a,1\n1,,2\n2,c,4\n3,b,7\n",
     )?;
     assert_eq!(rt; unmade(&lazy), 0);
+    Ok(())
+}
+
+// By day, from the least on.
+fn by_day() -> [SortKey; 1] {
+    [SortKey {
+        col: 0,
+        desc: false,
+        nulls_first: false,
+    }]
+}
+
+#[test]
+fn an_order_makes_the_cells_that_it_needs(rt: HostRuntime) -> Result<(), Fail> {
+    let mut lazy = SegmentSet::lazy(rt.alloc(), schema(rt.alloc())?);
+    fill(rt.alloc(), &mut lazy)?;
+    let rows = lazy.ordered(&by_day())?;
+    assert_eq!(rt; rows.len(), 4);
+    assert_eq!(rt; unmade(&lazy), 0);
+    Ok(())
+}
+
+#[test]
+fn what_is_beside_is_not_read_again(rt: HostRuntime) -> Result<(), Fail> {
+    let mut known = SegmentSet::lazy(rt.alloc(), schema(rt.alloc())?);
+    fill(rt.alloc(), &mut known)?;
+    known.make()?;
+    let mut new = known.like(rt.alloc())?;
+    let taken = new.take_beside(name(b"1")?, b"day,shop\n3,b\n1,a\n", &known)?;
+    assert_eq!(rt; taken, Taken::New);
+    assert_eq!(rt; unmade(&new), 0);
     Ok(())
 }
 

@@ -70,6 +70,14 @@ fn by(col: usize) -> [SortKey; 1] {
     }]
 }
 
+// The places of a run in order, none where it is not kept.
+fn places<'a>(kept: &'a KeptRuns, keys: &[SortKey]) -> &'a [u32] {
+    match kept.find(keys) {
+        Some(run) => run.rows(),
+        None => &[],
+    }
+}
+
 // Four runs are kept, and also by what shares them. One that was let go is made again.
 #[test]
 fn the_first_of_five_runs_is_let_go(rt: HostRuntime) -> Result<(), Fail> {
@@ -85,7 +93,7 @@ fn the_first_of_five_runs_is_let_go(rt: HostRuntime) -> Result<(), Fail> {
         assert!(rt; shared.find(&by(col)).is_some());
         assert!(rt; shared.source(&by(col)).is_some());
     }
-    let run = kept.get_or_make(&by(0))?;
-    assert_eq!(rt; run.rows(), [1, 0].as_slice());
+    kept.make(&by(0))?;
+    assert_eq!(rt; places(&kept, &by(0)), [1, 0].as_slice());
     Ok(())
 }

@@ -1,9 +1,9 @@
-//! How much work an answer takes: joins of the folds of frames, and orders of rows.
+//! How much work an answer takes: joins of the folds of frames, orders of rows, and the runs that it leaves.
 
 use std::alloc::Global;
 use std::process::Abort;
 use std::test::*;
-use wask::accepted_is_sound;
+use wask::{accepted_is_sound, ask};
 use wlexer::lex;
 use wparser::parse;
 use wplanner::{Table, execute};
@@ -175,5 +175,25 @@ fn queries_leave_runs(rt: HostRuntime) -> Result<(), Fail> {
     assert!(rt; !have_run(&sales, by(0)));
     assert!(rt; have_run(&sales, by(1)));
     assert!(rt; have_run(&sales, by(2)));
+    Ok(())
+}
+
+// So does a text that is asked, whose rows are printed where they lie.
+#[test]
+fn texts_leave_runs(rt: HostRuntime) -> Result<(), Fail> {
+    let mut sales = same_sales(rt.alloc())?;
+    assert!(rt; !have_run(&sales, by(0)));
+    ask(
+        rt.alloc(),
+        &mut sales,
+        b"SELECT day, sum(amount) OVER (ORDER BY day) FROM sales",
+    )?;
+    assert!(rt; have_run(&sales, by(0)));
+    ask(
+        rt.alloc(),
+        &mut sales,
+        b"SELECT day FROM sales WHERE amount = 0 ORDER BY amount",
+    )?;
+    assert!(rt; !have_run(&sales, by(2)));
     Ok(())
 }
