@@ -1,6 +1,6 @@
 //! The distinct values of a column, found at a bounded cost for each cell: a value is looked for in few slots of a table,
 //! from that of its hash on. Values whose hashes collide push each other out, and are then listed more than once.
-ghost use Rattle.std.specs.Prelude.{◌≡◌, ◌≤◌, ◌<◌, ◌+◌, ℕ, true, All, length, map, IfOk, IfSome, OnOk};
+ghost use Rattle.std.specs.Prelude.{◌≡◌, ◌≤◌, ◌<◌, ◌+◌, ◌^◌, ℕ, true, All, length, map, IfNone, IfOk, IfSome, OnOk};
 ghost use Rattle.wvalues.specs.Meaning.{meaning};
 ghost use Rattle.wcodes.specs.Columns.{value_at};
 ghost use Rattle.wcodes.specs.CodedRows.{values_seen};
@@ -132,7 +132,7 @@ fn empty_slots(alloc: Global, count: usize) -> Result<Vec<u32>, AllocError>
 }
 
 /// The distinct values of a column, in the order of first sight; a value may be listed more than once where hashes
-/// collide. None where there are more than 65,536.
+/// collide. None where more than 65,536 are listed.
 pub(crate) fn distinct_values<'a>(
     alloc: Global,
     column: &[&'a Value],
@@ -141,6 +141,8 @@ pub(crate) fn distinct_values<'a>(
         found.numbers.items ≡ values_seen column.now)) }
     ensures below { IfOk result (λ distinct. IfSome distinct (λ found. All (λ i. i < length found.values.items) found.numbers.items)) }
     ensures few { IfOk result (λ distinct. IfSome distinct (λ found. length found.values.items ≤ length column.now)) }
+    ensures most { IfOk result (λ distinct. IfSome distinct (λ found. length found.values.items ≤ 2 ^ 16)) }
+    ensures none { IfOk result (λ distinct. IfNone distinct (2 ^ 16 < length column.now)) }
 {
     let mut slots = empty_slots(alloc, column.len())?;
     let mut values = Vec::new(alloc);

@@ -272,7 +272,7 @@ fn all_window_calls<'a>(alloc: Global, query: &'a Query) -> Result<Vec<&'a Call>
     Ok(calls)
 }
 
-/// The aggregates without OVER, each once: those of the SELECT list, of HAVING, of the WINDOW entries and of ORDER BY.
+/// The aggregates without OVER, and GROUPING, each once: those of the SELECT list, of HAVING, of the WINDOW entries and of ORDER BY.
 pub fn group_calls<'a>(alloc: Global, query: &'a Query) -> Result<CallSet<'a>, AllocError>
     ensures { IfOk result (λ calls. calls_in calls ≡ aggregates_of (clauses_in query.now)) }
 {

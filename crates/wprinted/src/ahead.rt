@@ -80,9 +80,15 @@ fn numbers_from<'a>(others: &'a OtherRows<'_>, from: usize, count: usize) -> &'a
     }
 }
 
-// Whether one of some rows seems to have a text at a place, where they lie so. Counts are numbers, and what other rows have lies apart
-// even where the rows lie together.
-fn seem_texts<R: Rows>(printed: &Printed<'_, R>, place: usize, batch: Batch, layout: Layout) -> bool
+// Whether one of some rows seems to have a text at a place, where they lie so, and their cells are near or not. Counts are numbers,
+// and what other rows have lies apart even where the rows lie together.
+fn seem_texts<R: Rows>(
+    printed: &Printed<'_, R>,
+    place: usize,
+    batch: Batch,
+    layout: Layout,
+    are_near: bool,
+) -> bool
     requires ordered { batch.from < batch.end }
     requires within { batch.end ≤ length (R.rows printed.now.rows.now) }
 {
@@ -93,15 +99,15 @@ fn seem_texts<R: Rows>(printed: &Printed<'_, R>, place: usize, batch: Batch, lay
             let count = batch.end - batch.from;
             others.hold_text(printed.null, numbers_from(others, first.number, count))
         }
-        (_, Layout::Contiguous) => !are_numbers(printed, place, batch.from),
-        (_, Layout::Scattered) => hold_text(printed, place, batch),
+        (_, Layout::Contiguous) if are_near => !are_numbers(printed, place, batch.from),
+        (_, _) => hold_text(printed, place, batch),
     }
 }
 
 /// Makes room for the texts of a row and of those behind it that are looked at with it, a place of all of them after another.
 /// Nothing is done between one value and the next, so that the processor has many of them on their way from memory at once, and
 /// finds them near when they are printed. Where rows lie apart, the cells are looked at before the texts that they lead to; where
-/// they lie together, places of numbers are left out, since their cells are near. Values that other rows have lie apart however the
+/// they lie together, this brings all cells of a row near, so that further places of numbers are left out. Values that other rows have lie apart however the
 /// rows lie, and are looked at by the numbers that are kept for them; counts are left out. Where the texts find no room, they make
 /// it as they are added: this is a matter of speed alone.
 pub(crate) fn look_ahead<R: Rows>(bytes: &mut Vec<u8>, printed: &Printed<'_, R>, row: usize)
@@ -116,11 +122,14 @@ pub(crate) fn look_ahead<R: Rows>(bytes: &mut Vec<u8>, printed: &Printed<'_, R>,
         end: printed.rows.count().min(row.saturating_add(AHEAD)),
     };
     let layout = printed.rows.layout(batch.from, batch.end);
+    let cells = printed.rows.row(row).cells.len();
     let mut room: usize = 0;
+    let mut are_near = false;
     for place in printed.places {
-        if seem_texts(printed, *place, batch, layout) {
+        if seem_texts(printed, *place, batch, layout, are_near) {
             room = room.saturating_add(room_at(printed, *place, batch));
         }
+        are_near |= *place < cells;
     }
     let _ = bytes.reserve(room);
 }

@@ -173,20 +173,3 @@ pub fn joined_items(
     let numbers = asked_numbers(alloc, key_exprs, keys, asked, &extended)?;
     items_at(alloc, items, &numbers, &extended)
 }
-
-/// The same of rows that have nothing behind their cells.
-pub fn ordered_items(
-    alloc: Global,
-    items: &[&Expr],
-    key_exprs: &[&Expr],
-    keys: &[SortKey],
-    asked: Asked,
-    rows: &[&[Value]],
-) -> Result<Cells, AnswerFault>
-    requires { length key_exprs.now ≡ length keys.now }
-    ensures width { IfOk result (λ cells. cells.width ≡ length items.now) }
-    ensures rows { Gives rows_in result (ordered_of (formulas_seen items.now) (formulas_seen key_exprs.now) keys.now
-        asked.offset asked.limit (rows_seen rows.now)) }
-{
-    joined_items(alloc, items, key_exprs, keys, asked, rows, &[])
-}

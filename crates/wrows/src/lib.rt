@@ -36,7 +36,7 @@ pub use batches::{batch_end, copy_of, is_text};
 pub use cells::{Cells, gathered, push_row};
 pub use condition::Condition;
 pub use fault::AnswerFault;
-pub use items::{Asked, asked_for, joined_items, ordered_items};
+pub use items::{Asked, asked_for, joined_items};
 pub use lent::lent_rows;
 pub use listing::lists;
 pub use place_values::{cells_at, place_of, places_of};

@@ -1,5 +1,5 @@
 //! A segment's rows in the order of keys.
-ghost use Rattle.std.specs.Prelude.{◌≡◌, ◌<◌, ◌≤◌, ◌^◌, ◌+◌, [], ◌∷◌, true, All, IfOk, length, map, slice_index_or};
+ghost use Rattle.std.specs.Prelude.{◌≡◌, ◌<◌, ◌≤◌, ◌^◌, ◌+◌, ◌*◌, [], ◌∷◌, true, All, IfOk, IfSome, length, map, slice_index_or};
 ghost use Rattle.wvalues.specs.Meaning.{meaning, Null};
 ghost use Rattle.wruns.specs.Cuts.{between, cut, pieces_of, start_of, AreEnds, AreEndsOf};
 ghost use Rattle.wcodes.specs.CodedRows.{code_at};
@@ -199,8 +199,9 @@ fn group_ends(
     requires { length rows.now < 2 ^ 32 }
     ensures ends { IfOk result (λ found. AreEndsOf found rows.now) }
     ensures groups { IfOk result (λ found. All (IsGroup table.now.keys.now table.now.segment.now.rows) (pieces_of found rows.now)) }
+    ensures few { IfOk result (λ found. IfSome found (λ ends. length ends.items * 2 ≤ length rows.now)) }
 {
-    if rows.is_empty() {
+    if rows.len() < 2 {
         return Ok(None);
     }
     let mut ends = Vec::new(alloc);

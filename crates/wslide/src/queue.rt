@@ -65,13 +65,6 @@ impl<P: Copy> FoldQueue<P> {
         self.front.len() + self.back.len()
     }
 
-    /// How many parts it has room for.
-    pub fn capacity(&self) -> usize
-        ensures { result ≡ capacity self.now }
-    {
-        self.limit
-    }
-
     /// Adds a part at the end, by one join.
     pub fn push<F: Fold<Part = P>>(&mut self, fold: &F, meter: &mut F::Meter, part: P)
         requires kept { KeepsParts (F.is_part fold.now) self.old }

@@ -16,5 +16,6 @@ loop-value-preserved c =
       below = below_more c.loop-value.numbers.items c.push.new.self.items number (length values) (length more) inv.below
           of.longer of.within c.in_ok-push.ensures.items;
       few = omega (arith, inv.few, of.few);
+      most = omega (arith, c.if-len-gt-MOST_DISTINCT.false);
       slots = omega (arith, inv.slots, of.slots);
     }
