@@ -1,5 +1,5 @@
 -- A name behind all that are known: what it adds to the entries.
-use Rattle.std.proofs.Common.{◌≡◌, ℕ, cond, List, [], ◌∷◌, ◌++◌, None, Some, refl, sym, ap, ◌∙◌, is_eq, Bool, true, false, ◌||◌}
+use Rattle.std.proofs.Common.{◌≡◌, ℕ, cond, not, List, [], ◌∷◌, ◌++◌, None, Some, refl, sym, ap, ◌∙◌, is_eq, Bool, true, false, ◌||◌}
 use Rattle.std.proofs.lemmas.Bool.{and_parts, or_right}
 use Rattle.std.proofs.lemmas.Cmp.{tied_itself}
 use Rattle.std.specs.Ordering.{nat_cmp, ordering_then}
@@ -11,7 +11,7 @@ use Rattle.wvalues.specs.Names.{NameParts, name_cmp, names_total}
 use Rattle.wentries.specs.Knowledge.{Known, Live, Disputed, Retired, Floor, is_above, same_bytes, same_name}
 use Rattle.wset.specs.Views.{View, IsSettled, is_below, join, join_told}
 use Rattle.wset.specs.Items.{SegmentItem, RetirementItem, FloorItem, view_of_item}
-use Rattle.wentries.specs.Entries.{AreBelow, AreOriginsBelow}
+use Rattle.wentries.specs.Entries.{AreBelow, AreOriginsBelow, above_floor}
 use Rattle.wset.specs.Lending.{IsAbove, IsBehindOrigins, only_disputed}
 use Rattle.wentries.proofs.Floors.{both_cases, same_name-true, same_bytes-true}
 use Rattle.wentries.proofs.Finding.{turned}
@@ -22,7 +22,7 @@ use Rattle.wset.proofs.Singles.{joined_floor, not_above, told_nothing, take_new,
 greater : (e : NameParts × Known) (n : NameParts) → name_cmp e.0 n ≡ Less → name_cmp n e.0 ≡ Greater
 greater e n h = turned e.0 n Less h
 
-put_last : (n : NameParts) (k : Known) (es : List (NameParts × Known)) → AreBelow n es → put name_cmp n k es ≡ es ++ (n, k) ∷ []
+pub put_last : (n : NameParts) (k : Known) (es : List (NameParts × Known)) → AreBelow n es → put name_cmp n k es ≡ es ++ (n, k) ∷ []
 put_last n k [] h = refl
 put_last n k (e ∷ es) h =
     ap (λ o. by_order o ((n, k) ∷ e ∷ es) ((e.0, k) ∷ es) (e ∷ put name_cmp n k es)) (greater e n h.0)
@@ -58,7 +58,7 @@ dispute_later v n s h = ap entries (sym (dispute_new v n s (high v n h) (unknown
 
 -- ---- a floor behind all origins
 
-below_of_origins : (n : NameParts) (es : List (NameParts × Known)) → AreOriginsBelow n.origin es → AreBelow n es
+pub below_of_origins : (n : NameParts) (es : List (NameParts × Known)) → AreOriginsBelow n.origin es → AreBelow n es
 below_of_origins n [] h = tt
 below_of_origins n (e ∷ es) h = (ap (λ o. ordering_then o (nat_cmp e.0.number n.number)) h.0, below_of_origins n es h.1)
 
@@ -99,3 +99,26 @@ floor_inserted v n s h = same_view _ _ (λ q. get-insert names_total v n Floor q
 pub floor_later : (v : View) (n : NameParts) → IsSettled v → IsBehindOrigins v n
     → entries (join v (view_of_item (FloorItem n))) ≡ entries v ++ (n, Floor) ∷ []
 floor_later v n s h = ap entries (sym (floor_inserted v n s h)) ∙ inserted v n Floor (above_all v n h)
+
+not_of_origin : (n q : NameParts) → slice_cmp nat_cmp q.origin n.origin ≡ Less → is_above q n ≡ false
+not_of_origin n q h = by (is_above q n) refl
+  where
+    by : (b : Bool) → is_above q n ≡ b → is_above q n ≡ false
+    by true over =
+        absurd (not_equal (sym h ∙ ap (λ o. slice_cmp nat_cmp o n.origin) (same_bytes-true q.origin n.origin
+        (and_parts (same_bytes q.origin n.origin) _ over).0) ∙ tied_itself nat_list_cmp_total n.origin))
+    by false over = over
+
+none_below : (n : NameParts) (es : List (NameParts × Known)) → AreOriginsBelow n.origin es
+    → above_floor n (es ++ (n, Floor) ∷ []) ≡ es ++ (n, Floor) ∷ []
+none_below n [] h = ap (λ b. cond (not b) ((n, Floor) ∷ []) []) (not_above n)
+none_below n (e ∷ es) h =
+    ap (λ b. cond (not b) (e ∷ above_floor n (es ++ (n, Floor) ∷ [])) (above_floor n (es ++ (n, Floor) ∷ []))) (not_of_origin n e.0 h.0)
+    ∙ ap (λ l. e ∷ l) (none_below n es h.1)
+
+-- nothing that was held is below it
+pub floor_alone : (n : NameParts) (es : List (NameParts × Known)) → AreOriginsBelow n.origin es
+    → put name_cmp n Floor es ≡ above_floor n (put name_cmp n Floor es)
+floor_alone n es h =
+    let last = put_last n Floor es (below_of_origins n es h) in
+    last ∙ sym (ap (above_floor n) last ∙ none_below n es h)

@@ -1,10 +1,11 @@
 //! Rows in order, by the runs that are kept of live segments.
-ghost use Rattle.std.specs.Prelude.{◌≡◌, ◌++◌, ◌∷◌, [], All, IfOk, OnOk};
+ghost use Rattle.std.specs.Prelude.{◌≡◌, ◌↔◌, ◌<◌, ◌/◌, ◌++◌, ◌∷◌, [], All, IsTrue, IfOk, OnOk, map};
 ghost use Rattle.std.specs.List.{AllByRecursion, IsAmong};
 ghost use Rattle.wruns.specs.Dealing.{segment_rows};
 ghost use Rattle.wruns.specs.Merging.{has_keys, rows_seen};
 ghost use Rattle.wentries.specs.Blocks.{flat};
 ghost use Rattle.wentries.specs.Keeping.{orders_in, rows_in};
+ghost use Rattle.wset.specs.Running.{CanBeDealt, no_sizes, with_run, with_runs};
 
 use crate::walk::Walk;
 use std::alloc::{AllocError, Global};
@@ -63,7 +64,9 @@ pub(crate) struct RunSizes {
 }
 
 impl RunSizes {
-    fn new() -> RunSizes {
+    fn new() -> RunSizes
+        ensures { result ≡ no_sizes }
+    {
         RunSizes {
             runs: 0,
             groups: 0,
@@ -71,14 +74,18 @@ impl RunSizes {
         }
     }
 
-    fn add(&mut self, run: &Run) {
+    fn add(&mut self, run: &Run)
+        ensures { self.new ≡ with_run self.old run.now }
+    {
         self.runs = self.runs.saturating_add(1);
         self.groups = self.groups.saturating_add(run.groups());
         self.rows = self.rows.saturating_add(run.rows().len());
     }
 
     /// The sizes of the runs of some segments.
-    pub(crate) fn of_sources(sources: &[SegmentRun]) -> RunSizes {
+    pub(crate) fn of_sources(sources: &[SegmentRun]) -> RunSizes
+        ensures { result ≡ with_runs no_sizes (map (λ source. source.run.now) sources.now) }
+    {
         let mut sizes = RunSizes::new();
         for source in sources {
             sizes.add(source.run());
@@ -87,7 +94,9 @@ impl RunSizes {
     }
 
     /// The sizes of some runs.
-    pub(crate) fn of_runs(runs: &[Rc<Run>]) -> RunSizes {
+    pub(crate) fn of_runs(runs: &[Rc<Run>]) -> RunSizes
+        ensures { result ≡ with_runs no_sizes (map (λ run. run.value) runs.now) }
+    {
         let mut sizes = RunSizes::new();
         for run in runs {
             sizes.add(run.as_ref());
@@ -97,7 +106,9 @@ impl RunSizes {
 
     /// Whether there are several runs, of more than one group for two rows, so that to merge them again would cost about what
     /// sorting costs.
-    pub(crate) fn cost_much(&self) -> bool {
+    pub(crate) fn cost_much(&self) -> bool
+        ensures { IsTrue result ↔ ((1 < self.now.runs) × (self.now.rows / 2 < self.now.groups)) }
+    {
         self.runs > 1 && self.groups > self.rows / 2
     }
 }
@@ -129,7 +140,9 @@ pub(crate) fn segments<'a>(
 }
 
 /// Whether no live segment has a run of these keys, and all have fewer rows than are too many for one order.
-pub(crate) fn can_be_dealt(blocks: &[Block], keys: &[SortKey]) -> bool {
+pub(crate) fn can_be_dealt(blocks: &[Block], keys: &[SortKey]) -> bool
+    ensures { IsTrue result ↔ CanBeDealt keys.now 0 (flat blocks.now) }
+{
     let mut rows: usize = 0;
     let mut walk = Walk::new(blocks);
     'walk: while let Some(entry) = walk.step() {

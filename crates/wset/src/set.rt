@@ -32,8 +32,8 @@ use std::alloc::{AllocError, Global};
 use std::marker::Model;
 use std::rc::Rc;
 use wentries::{
-    Block, Held, Kept, Listed, Status, count_after, end_before, end_before_origin, entry_count,
-    floor_in, held_in, in_blocks, is_low, keep_in, listing, make_cells_in, make_in,
+    Block, Held, Kept, Listed, Status, count_after, end_before, end_before_origin, floor_in,
+    held_in, in_blocks, is_low, keep_in, listing, make_cells_in, make_in,
 };
 use wruns::{Dealt, RowRef, Run, deal_runs};
 use wsegment::{Judged, Schema, Segment, SegmentFault};
@@ -364,7 +364,9 @@ impl SegmentSet {
 
     /// Retires all names of an origin up to this one, for good: a floor. What is held below it is dropped: that looks
     /// at the entries of the blocks from the origin's first name to the floor, and at the first entry of each other
-    /// block. A floor that does not rise takes no memory; there, and where memory runs out, the set is as it was.
+    /// block. Where all origins of which something is known stand before that of the floor, nothing is below it, and it
+    /// is put behind all entries without a look at any block but the last. A floor that does not rise takes no memory;
+    /// there, and where memory runs out, the set is as it was.
     pub fn retire_to(&mut self, name: Name) -> Result<Retired, AllocError>
         ensures word { IfOk result (λ word. word ≡ floor_word self.old.view name) }
         ensures ok { let item = view_of_item (FloorItem name) in
@@ -376,11 +378,11 @@ impl SegmentSet {
         if self.is_reached(&name) {
             return Ok(Retired::Same);
         }
-        let _count = count_after(&self.blocks, self.count, &name)?;
+        let most = count_after(&self.blocks, self.count, &name)?;
         self.order = None;
         self.differing = None;
-        raise_counted(self.alloc, &mut self.blocks, &mut self.starts, name)?;
-        self.count = entry_count(&self.blocks);
+        let entries = raise_counted(self.alloc, &mut self.blocks, &mut self.starts, name, most)?;
+        self.count = entries;
         Ok(Retired::New)
     }
 

@@ -5,13 +5,15 @@ ghost use Rattle.wsegment.specs.Declaration.{Declaration};
 ghost use Rattle.wvalues.specs.Names.{name_cmp};
 ghost use Rattle.wentries.specs.Knowledge.{Floor};
 ghost use Rattle.wentries.specs.Holding.{IsHeldBy, known_of};
-ghost use Rattle.wentries.specs.Entries.{AreBelow, AllHeldBy, IsRising, above_floor, known_entries};
-ghost use Rattle.wentries.specs.Blocks.{flat};
+ghost use Rattle.wentries.specs.Entries.{AreBelow, AreOriginsBelow, AllHeldBy, IsRising, above_floor, known_entries};
+ghost use Rattle.wentries.specs.Blocks.{IsGrown, flat};
 ghost use Rattle.wset.specs.Running.{AreStarts, IsLiveHome, lives_before};
 ghost use Rattle.wentries.specs.Keeping.{kept_in};
 
 use std::alloc::{AllocError, Global};
-use wentries::{Block, Held, Kept, end_before, live_at, put_in, raise_in};
+use wentries::{
+    Block, Held, Kept, end_before, end_before_origin, entry_count, live_at, put_in, raise_in,
+};
 use wvalues::Name;
 
 /// The number of live names before the next block to be counted, behind those that are.
@@ -89,6 +91,7 @@ pub(crate) fn put_counted(
     ensures read { (d : Declaration)
         → AllHeldBy d (flat blocks.old.items) → IsHeldBy d held → AllHeldBy d (flat blocks.new.items) }
     ensures err { OnErr result (flat blocks.new.items ≡ flat blocks.old.items) }
+    ensures behind { AreBelow name (known_entries (flat blocks.old.items)) → IsGrown blocks.old.items blocks.new.items }
     ensures placed { length starts.new.items ≡ length blocks.new.items }
     ensures starts { AreStarts blocks.new.items starts.new.items }
 {
@@ -99,8 +102,9 @@ pub(crate) fn put_counted(
     outcome
 }
 
-/// Puts a floor, drops what is below it, and counts again. Where it finds no memory no entry is changed.
-pub(crate) fn raise_counted(
+/// Puts a floor, drops what is below it, and counts again: a step for each block. Where it finds no memory no entry is
+/// changed.
+fn raise_inside(
     alloc: Global,
     blocks: &mut Vec<Block>,
     starts: &mut Vec<usize>,
@@ -123,6 +127,38 @@ pub(crate) fn raise_counted(
     let outcome = raise_in(alloc, blocks, floor);
     count_again(blocks, starts, 0);
     outcome
+}
+
+/// Puts a floor, drops what is below it, and counts again: a step where all origins stand before that of the floor, as
+/// nothing is below it then, and else one for each block. It tells how many entries there then are, where `count` is their
+/// number with the floor, before anything is dropped. Where it finds no memory no entry is changed.
+pub(crate) fn raise_counted(
+    alloc: Global,
+    blocks: &mut Vec<Block>,
+    starts: &mut Vec<usize>,
+    floor: Name,
+    count: usize,
+) -> Result<usize, AllocError>
+    requires rising { IsRising (flat blocks.old.items) }
+    requires count { count ≡ length (put name_cmp floor Floor (known_entries (flat blocks.old.items))) }
+    requires placed { length starts.old.items ≡ length blocks.old.items }
+    requires starts { AreStarts blocks.old.items starts.old.items }
+    ensures ok { OnOk result
+        (known_entries (flat blocks.new.items)
+        ≡ above_floor floor (put name_cmp floor Floor (known_entries (flat blocks.old.items)))) }
+    ensures count { IfOk result (λ count. count ≡ length (flat blocks.new.items)) }
+    ensures read { (d : Declaration) → AllHeldBy d (flat blocks.old.items) → AllHeldBy d (flat blocks.new.items) }
+    ensures err { OnErr result (flat blocks.new.items ≡ flat blocks.old.items) }
+    ensures behind { AreOriginsBelow floor.origin (known_entries (flat blocks.old.items)) → IsGrown blocks.old.items blocks.new.items }
+    ensures placed { length starts.new.items ≡ length blocks.new.items }
+    ensures starts { AreStarts blocks.new.items starts.new.items }
+{
+    if end_before_origin(blocks, &floor) {
+        put_counted(alloc, blocks, starts, floor, Held::Floor)?;
+        return Ok(count);
+    }
+    raise_inside(alloc, blocks, starts, floor)?;
+    Ok(entry_count(blocks))
 }
 
 /// The number of live names before each block.

@@ -1,19 +1,18 @@
-use Rattle.std.proofs.Common.{arith, refl, take}
-use Rattle.std.proofs.lemmas.List.{length-take}
-use Rattle.wentries.specs.Knowledge.{Floor}
+use Rattle.std.proofs.Common.{◌∙◌, subst}
 use Rattle.wentries.specs.Blocks.{flat}
-use Rattle.wentries.proofs.Sizes.{few_before}
-use Rattle.wset.proofs.LiveFacts.{few_starts}
+use Rattle.wentries.specs.Entries.{AreOriginsBelow, known_entries}
+use Rattle.wset.proofs.Later.{below_of_origins, floor_alone}
 use Rattle.wset.proofs.starts.raise_counted.Goals as goal
 
-pub count_again-requires-clause-starts : goal.count_again-requires-clause-starts
-count_again-requires-clause-starts c = few_starts _ (take 0 c.reserve.new.self.items)
-    (omega (arith, length-take 0 c.reserve.new.self.items))
+pub returns-then-end_before_origin-clause-ok : goal.returns-then-end_before_origin-clause-ok
+returns-then-end_before_origin-clause-ok c =
+    let below = subst (λ bs. AreOriginsBelow c.args.floor.origin (known_entries (flat bs))) c.deref.ensures.value
+    (c.end_before_origin.ensures.0 c.if-end_before_origin.true) in
+    c.in_ok-put_counted.ensures.ok ∙ floor_alone c.args.floor (known_entries (flat c.args.blocks.now.items)) below
 
-pub returns-in_err-reserve-clause-few : goal.returns-in_err-reserve-clause-few
-returns-in_err-reserve-clause-few c = omega (
-  arith,
-  few_before (flat c.args.blocks.now.items) (flat c.args.blocks.now.items)
-      c.args.floor Floor c.requires.rising refl,
-  c.requires.few,
-)
+pub returns-then-end_before_origin-clause-read : goal.returns-then-end_before_origin-clause-read
+returns-then-end_before_origin-clause-read c d all = c.put_counted.ensures.read d all tt
+
+pub returns-then-end_before_origin-clause-behind : goal.returns-then-end_before_origin-clause-behind
+returns-then-end_before_origin-clause-behind c below =
+    c.put_counted.ensures.behind (below_of_origins c.args.floor (known_entries (flat c.args.blocks.now.items)) below)

@@ -1,4 +1,4 @@
-use Rattle.std.proofs.Common.{◌≡◌, ◌∙◌, false, ap, refl, sym, length, arith}
+use Rattle.std.proofs.Common.{◌≡◌, ◌∙◌, false, ap, refl, sym, arith}
 use Rattle.std.proofs.lemmas.Bool.{or_parts}
 use Rattle.std.specs.FinMap.{get, put}
 use Rattle.std.specs.List.{list_any}
@@ -20,15 +20,15 @@ returns-then-is_reached-clause-ok c =
     same_view c.args.self.now _ (floor_reached c.args.self.now.view c.args.name c.is_reached.ensures.settled
     (sym c.is_reached.ensures.reached ∙ c.if-is_reached.true))
 
-pub raise_counted-requires-clause-few : goal.raise_counted-requires-clause-few
-raise_counted-requires-clause-few c = omega (arith, (rw c.deref.ensures.value at c.in_ok-_count.ensures.count) Floor)
+pub raise_counted-requires-clause-count : goal.raise_counted-requires-clause-count
+raise_counted-requires-clause-count c = (rw c.deref.ensures.value at c.in_ok-most.ensures.count) Floor
 
 pub invariant_of-self-2 : goal.invariant_of-self-2
 invariant_of-self-2 c =
     let es = flat c.self.inside.blocks.items in
     let gs = flat c.raise_counted.new.blocks.items in
     let known : known_entries gs ≡ above_floor c.args.name (put name_cmp c.args.name Floor (known_entries es)) =
-    c.in_ok-raise_counted.ensures.ok in
+    c.in_ok-entries.ensures.ok in
     let not_reached = or_parts (is_below c.args.self.now.view c.args.name) (is_floor (get c.args.self.now.view c.args.name))
     (sym c.is_reached.ensures.reached ∙ c.if-is_reached.false) in
     let high : list_any (is_over c.args.name) (known_entries es) ≡ false =
@@ -37,7 +37,7 @@ invariant_of-self-2 c =
     record {
       rising = rising_floor es gs c.args.name c.self.invariant.rising known;
       settled = settled_floor es gs c.args.name c.self.invariant.rising c.self.invariant.settled high known;
-      counted = c.entry_count-self-inside.ensures ∙ ap (λ bs. length (flat bs)) c.deref-2.ensures.value;
+      counted = c.in_ok-entries.ensures.count;
       few = omega arith;
       placed = c.raise_counted.ensures.placed;
       starts = c.raise_counted.ensures.starts;
@@ -51,7 +51,7 @@ returns-clause-ok c =
     let es = flat c.self.inside.blocks.items in
     let gs = flat c.raise_counted.new.blocks.items in
     let known : known_entries gs ≡ above_floor c.args.name (put name_cmp c.args.name Floor (known_entries es)) =
-    c.in_ok-raise_counted.ensures.ok in
+    c.in_ok-entries.ensures.ok in
     let not_reached = or_parts (is_below c.args.self.now.view c.args.name) (is_floor (get c.args.self.now.view c.args.name))
     (sym c.is_reached.ensures.reached ∙ c.if-is_reached.false) in
     let high : list_any (is_over c.args.name) (known_entries es) ≡ false =
@@ -61,5 +61,5 @@ returns-clause-ok c =
     (view_floor es gs c.args.name c.self.invariant.rising c.self.invariant.settled high known)
 
 pub invariant_of-self : goal.invariant_of-self
-invariant_of-self c = orderly_flat c.self.inside _ refl refl c.in_err-raise_counted.ensures.err
+invariant_of-self c = orderly_flat c.self.inside _ refl refl c.in_err-entries.ensures.err
     c.raise_counted.ensures.placed c.raise_counted.ensures.starts refl refl c.self.invariant
