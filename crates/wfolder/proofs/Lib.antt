@@ -1,4 +1,7 @@
+pub mod Crash
+pub mod Does
 pub mod Ends
+pub mod Memory
 pub mod Safety
 pub mod Sites
 pub mod Steps

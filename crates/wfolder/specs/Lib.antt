@@ -1,6 +1,8 @@
 pub mod Call
 pub mod Calls
 pub mod Clearing
+pub mod Disk
+pub mod Memory
 pub mod Model
 pub mod Names
 pub mod Order
