@@ -1,12 +1,12 @@
 //! Where the tokens of a query stand: in which clause of which SELECT, and in what of a call.
 //!
 //! - Gives this of each token, the parentheses of a query in pairs, and by them the arguments of a call, its FILTER and its OVER.
-//! - Promises: nothing but that each call returns. What is said of a token is tested by the places to which `wspots` points.
+//! - Promises: the pairs, where each token stands, and what is read from both, are those of the definitions.
 //! - How, which no clause says: the tokens are gone through twice in all, whatever stands in them.
-//! - Asks: the tokens of a query, in which parentheses are in pairs.
+//! - Asks nothing of the tokens: one that opens a pair which nothing closes is a pair by itself.
 //! - Leaves what breaks a rule to `wspots`.
 //!
-//! Read `src/clauses.rt`, then `src/pairs.rt`.
+//! Read `specs/Tokens.antt`, `specs/Pairs.antt` and `specs/Clauses.antt`, then `src/clauses.rt` and `src/pairs.rt`.
 #![tactic(auto)]
 
 mod clauses;

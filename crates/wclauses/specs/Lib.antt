@@ -1,0 +1,4 @@
+pub mod Tokens
+pub mod Pairs
+pub mod Settling
+pub mod Clauses
