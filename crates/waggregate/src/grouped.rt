@@ -1,5 +1,5 @@
 //! Aggregates of groups.
-ghost use Rattle.std.specs.Prelude.{◌≡◌, ◌<◌, ◌^◌, All, IfOk, length, map, option_map, slice_index_or};
+ghost use Rattle.std.specs.Prelude.{◌≡◌, ◌<◌, ◌^◌, All, IfOk, OnOk, length, map, option_map, slice_index_or};
 ghost use Rattle.std.specs.List.{flat_map};
 ghost use Rattle.std.specs.Option.{ForSome};
 ghost use Rattle.wvalues.specs.Meaning.{meaning};
@@ -54,6 +54,7 @@ fn group_parts<F: Fold>(
     ensures folds { IfOk result (λ parts. parts.items ≡ map (λ g. rows_fold (F.neutral fold.now) (F.joined fold.now)
         (F.part_at fold.now) (rows_of_group groups.now g)) (places count)) }
     ensures parts { IfOk result (λ parts. All (F.is_part fold.now) parts.items) }
+    ensures joins { OnOk result (F.count meter.new ≡ length groups.now) }
 {
     let mut parts = units(alloc, fold, count)?;
     for row in 0..groups.len() {
@@ -93,6 +94,7 @@ fn fold_groups<F: AnsweringFold>(
         (in_range (map (λ g. F.answer fold.now (rows_fold (F.neutral fold.now) (F.joined fold.now) (F.part_at fold.now)
         (rows_of_group groups.now g))) order.now)) }
     ensures len { IfOk result (λ column. length column.items ≡ length order.now) }
+    ensures joins { OnOk result (F.count meter.new ≡ length groups.now) }
 {
     let parts = group_parts(alloc, fold, meter, groups, count)?;
     let ordered = parts_in_order(alloc, &parts, order)?;
