@@ -5,7 +5,7 @@ use Rattle.std.proofs.Common.{set, get_or, nat_lt, refl, sym, ap, subst, ◌∙�
 use Rattle.std.specs.Bool.{one_answer}
 use Rattle.std.specs.Cmp.{first_so, second_so}
 use Rattle.std.specs.Cmp.Lexicographic.{pointwise, pointwise_decides}
-use Rattle.std.specs.Prelude.{◌^◌, IfOk, Some, Result, Ok, Err, min, nat_le, if◌then◌else◌}
+use Rattle.std.specs.Prelude.{◌^◌, IfOk, None, Some, Result, Ok, Err, cond, is_some, min, nat_le, if◌then◌else◌}
 use Rattle.std.specs.Int.Bits.{bit_and}
 use Rattle.std.specs.List.{flat_map, list_any, position, position_or_len}
 use Rattle.std.proofs.Math.Nat.{mul-le-mul_right}
@@ -29,7 +29,7 @@ use Rattle.wgroup.specs.declared.keyed.GroupingRows.{GroupingRows}
 use Rattle.wgroup.specs.declared.group_slots.GroupTable.{GroupTable}
 use Rattle.wgroup.specs.Grouping.{SetColumns, group_key}
 use Rattle.wgroup.specs.Sight.{first_of, key_in}
-use Rattle.wgroup.specs.Table.{AreMet, HasKeys, Holds, alike, hash_of_key, is_of_group, key_hash, looked_at, looks_after, slot_of}
+use Rattle.wgroup.specs.Table.{AreMet, HasKeys, Holds, alike, apart_after, hash_of_key, is_of_group, key_hash, looked_at, looks_after, slot_of}
 use Rattle.wgroup.proofs.GroupFacts.{group_keys_wide}
 use Rattle.wgroup.proofs.LeaderFacts.{in_order}
 use Rattle.wgroup.proofs.NumberFacts.{are_equal}
@@ -285,6 +285,30 @@ pub record IsPut (keyed : GroupingRows) (row : ℕ) (table put : GroupTable) : T
   pub keys : put.keys.items ≡ table.keys.items
   pub long : length put.slots.items ≡ length table.slots.items
   pub met : AreMet keyed (table.firsts.items ++ row ∷ []) put.slots.items put.apart.items
+
+-- a group more stands apart where all of its slots are taken
+module _ (table : GroupTable) (first : ℕ) where
+  abbrev is_free : ℕ → Bool
+  is_free = nat_le (length table.firsts.items)
+
+  abbrev near : List ℕ
+  near = take 8 (drop first table.slots.items)
+
+  abbrev apart_where : Bool → List ℕ
+  apart_where free = if free then table.apart.items else table.apart.items ++ length table.firsts.items ∷ []
+
+  pub apart_still : (step : ℕ) → position is_free near ≡ Some step → table.apart.items ≡ apart_after table first
+  apart_still step e = let here = position-Some is_free near step 0 e in
+      sym (ap apart_where (list_any_at is_free near step 0 here.0 here.1))
+
+  pub apart_more : position is_free near ≡ None → table.apart.items ++ length table.firsts.items ∷ [] ≡ apart_after table first
+  apart_more e = sym (ap apart_where (go (list_any is_free near) refl))
+    where
+      go : (b : Bool) → list_any is_free near ≡ b → b ≡ false
+      go false q = refl
+      go true q = absurd (true≢false (ap is_some
+          (sym (ap (λ b. cond b (Some (position_or_len is_free near)) None)
+          (lt-ltb (position_or_len is_free near) (length near) (stands_within is_free near q))) ∙ e)))
 
 -- the count of looks
 module _ (keyed : GroupingRows) (row : ℕ) (table : GroupTable) where

@@ -1,6 +1,6 @@
 -- The groups of rows in a table of slots, where each is found by the hash of its key.
 use Rattle.std.specs.Prelude.{◌≡◌, ℕ, ◌+◌, ◌-◌, ◌^◌, ◌<◌, ◌≤◌, ◌&&◌, ◌++◌, Bool, true, List, [], ◌∷◌, length, map, min, take, drop}
-use Rattle.std.specs.Prelude.{get_or, nat_lt, if◌then◌else◌}
+use Rattle.std.specs.Prelude.{get_or, nat_le, nat_lt, if◌then◌else◌}
 use Rattle.std.specs.Hash as fed
 use Rattle.std.specs.Hash.{HashWrites}
 use Rattle.std.specs.Hash.FoldHasher as folding
@@ -50,6 +50,12 @@ abbrev pub looks_after : GroupingRows → GroupTable → ℕ → ℕ → ℕ
 looks_after keyed table first row =
     if list_any (is_of_group keyed table.firsts.items row) (take 8 (drop first table.slots.items)) then table.looks
     else min (table.looks + length table.apart.items) (2 ^ 64 - 1)
+
+-- the groups that stand apart, once a group more is added from a slot on: it is one of them, where all of its slots are taken
+abbrev pub apart_after : GroupTable → ℕ → List ℕ
+apart_after table first =
+    if list_any (nat_le (length table.firsts.items)) (take 8 (drop first table.slots.items)) then table.apart.items
+    else table.apart.items ++ length table.firsts.items ∷ []
 
 -- each group is met where its key is looked for
 abbrev pub AreMet : GroupingRows → List ℕ → List ℕ → List ℕ → Type 0

@@ -2,12 +2,13 @@
 //!
 //! A group stands in one of few slots, from that of its key's hash on, or where all of these are taken, among the groups that
 //! stand apart. So a row whose key is met in none of its slots, nor apart, is the first of its group, whatever hashes are.
-ghost use Rattle.std.specs.Prelude.{◌≡◌, ◌≤◌, ◌<◌, ◌+◌, ◌*◌, ◌^◌, length, nat_le, ◌++◌, ◌∷◌, [], true, false, IfOk, IfSome, OnOk};
+ghost use Rattle.std.specs.Prelude.{◌≡◌, ◌≤◌, ◌<◌, ◌+◌, ◌*◌, ◌^◌, length, nat_le, ◌++◌, ◌∷◌, []};
+ghost use Rattle.std.specs.Prelude.{true, false, if◌then◌else◌, IfOk, IfSome, OnOk};
 ghost use Rattle.std.specs.List.{list_any, position, position_or_len};
 ghost use Rattle.std.specs.Option.{IfNone};
 ghost use Rattle.wgroup.specs.Sight.{first_of};
 ghost use Rattle.wgroup.specs.declared.keyed.GroupingRows.{GroupingRows};
-ghost use Rattle.wgroup.specs.Table.{HasKeys, Holds, alike, is_of_group, key_hash, looked_at, looks_after, slot_of};
+ghost use Rattle.wgroup.specs.Table.{HasKeys, Holds, alike, apart_after, is_of_group, key_hash, looked_at, looks_after, slot_of};
 
 use crate::alike::{has_key, key_hash};
 use crate::keyed::GroupingRows;
@@ -41,7 +42,10 @@ pub(crate) struct GroupTable {
 pub(crate) fn empty_table(alloc: Global, slots: usize) -> Result<GroupTable, AllocError>
     requires some { 1 ≤ slots }
     requires few { slots < 2 ^ 32 }
-    ensures { (keyed : GroupingRows) → IfOk result (Holds keyed 0) }
+    ensures holds { (keyed : GroupingRows) → IfOk result (Holds keyed 0) }
+    ensures wide { IfOk result (λ table. length table.slots.items ≡ slots + 7) }
+    ensures apart { IfOk result (λ table. table.apart.items ≡ []) }
+    ensures looks { IfOk result (λ table. table.looks ≡ 0) }
 {
     Ok(GroupTable {
         firsts: Vec::new(alloc),
@@ -145,6 +149,8 @@ impl GroupTable {
         requires few { length self.old.firsts.items < 2 ^ 32 }
         ensures held { OnOk result (Holds keyed.now (row + 1) self.new) }
         ensures number { IfOk result (λ number. number ≡ length self.old.firsts.items) }
+        ensures apart { OnOk result (self.new.apart.items ≡ apart_after self.old first) }
+        ensures looks { self.new.looks ≡ self.old.looks }
     {
         let groups = self.firsts.len();
         let number = groups as u32;
@@ -165,6 +171,7 @@ impl GroupTable {
         requires few { length self.old.firsts.items < 2 ^ 32 }
         ensures held { OnOk result (Holds keyed.now (row + 1) self.new) }
         ensures number { IfOk result (λ number. number ≡ position_or_len (alike keyed.now row) (first_of (alike keyed.now) (row + 1))) }
+        ensures looks { self.new.looks ≡ looks_after keyed.now self.old (slot_of self.old.slots.items (key_hash keyed.now row)) row }
     {
         let first = slot_of(&self.slots, key_hash(keyed, row));
         match self.group_seen(keyed, first, row) {
@@ -187,6 +194,8 @@ impl GroupTable {
         requires few { length self.old.firsts.items < 2 ^ 32 }
         ensures held { OnOk result (Holds keyed.now (row + 1) self.new) }
         ensures number { IfOk result (λ number. number ≡ position_or_len (alike keyed.now row) (first_of (alike keyed.now) (row + 1))) }
+        ensures looks { self.new.looks ≡ (if is_of_group keyed.now self.old.firsts.items row guess then self.old.looks
+            else looks_after keyed.now self.old (slot_of self.old.slots.items (key_hash keyed.now row)) row) }
     {
         if is_of_group(keyed, self, guess as usize, row) {
             return Ok(guess);

@@ -7,7 +7,7 @@ use Rattle.wgroup.proofs.seen.tabled_groups.Goals as goal
 
 pub loop-row-init : goal.loop-row-init
 loop-row-init c =
-    let held : Holds c.args.keyed.now 0 c.in_ok-table.table = c.in_ok-table.ensures c.args.keyed.now in
+    let held : Holds c.args.keyed.now 0 c.in_ok-table.table = c.in_ok-table.ensures.holds c.args.keyed.now in
     let none : length c.in_ok-table.table.firsts.items ≡ 0 = ap length held.groups in
     record { held = held; numbered = c.in_ok-numbers.ensures.items; few = omega (arith, none) }
 

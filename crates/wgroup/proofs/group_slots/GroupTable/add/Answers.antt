@@ -5,8 +5,9 @@ use Rattle.std.specs.List.{position}
 use Rattle.std.proofs.lemmas.List.{length-set}
 use Rattle.wvalues.specs.Meaning.{meaning}
 use Rattle.wgroup.specs.Sight.{key_in}
+use Rattle.wgroup.specs.declared.group_slots.GroupTable.{GroupTable}
 use Rattle.wgroup.specs.Table.{AreMet, HasKeys}
-use Rattle.wgroup.proofs.TableFacts.{IsPut, free_near, held_new, keys_more, met_apart, met_near}
+use Rattle.wgroup.proofs.TableFacts.{IsPut, free_near, held_new, keys_more, apart_more, apart_still, met_apart, met_near}
 use Rattle.wgroup.proofs.group_slots.GroupTable.add.Goals as goal
 use Rattle.wgroup.proofs.group_slots.GroupTable.add.Goals.{in-Some, in-None+in_ok-push-in-None}
 
@@ -55,3 +56,22 @@ returns-clause-held c =
     (c.in_ok-push_key.ensures ∙ ap (λ l. map meaning l ++ key_in keyed.columns.now (map meaning c.cells_at.result.now)) put.keys) in
     held_new keyed row table c.requires.held c.requires.new _ (c.in_ok-push.ensures.items
     ∙ ap (λ l. l ++ row ∷ []) put.firsts) keys put.long put.met
+
+pub returns-clause-apart : goal.returns-clause-apart
+returns-clause-apart c =
+    let table = c.args.self.now in
+    let slots = table.slots.items in
+    let first = c.args.first in
+    let last : length table.firsts.items ≡ c.len-groups.result = sym (c.len-groups.ensures ∙ table.firsts.ok.0) in
+    let eight : 8 ≡ (first + 8) - first = omega arith in
+    let found : position (nat_le (length table.firsts.items)) (take 8 (drop first slots)) ≡ c.free_slot.result
+    = ap (λ n. position (nat_le n) (take 8 (drop first slots))) last
+    ∙ ap (λ l. position (nat_le c.len-groups.result) (take 8 (drop first l))) (sym c.deref.ensures.value)
+    ∙ ap (λ n. position (nat_le c.len-groups.result) (take n (drop first c.deref.result.now))) eight
+    ∙ sym c.free_slot.ensures in
+    elim c.match-free_slot.branch [
+      | in-Some w ↦ ap (λ (t : GroupTable). t.apart.items) w.self-is ∙ apart_still table first w.in-Some.step (found ∙ w.in-Some.is)
+      | in-None+in_ok-push-in-None w ↦
+          ap (λ (t : GroupTable). t.apart.items) w.self-is ∙ w.in_ok-push-in-None.ensures.items
+          ∙ ap (λ n. table.apart.items ++ n ∷ []) (sym last) ∙ apart_more table first (found ∙ w.in-None.is)
+    ]
