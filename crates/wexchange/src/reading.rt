@@ -437,7 +437,8 @@ pub fn read_beside(
 }
 
 /// The set whose file the bytes are, or where it has no floor its text in version 1, under this declaration, or their
-/// first fault from left to right. The digest of a file of version 2 is taken where all before it is right.
+/// first fault from left to right. The set is lazy: contents are judged, and no cells are made. The digest of a file of
+/// version 2 is taken where all before it is right.
 pub fn read(alloc: Global, schema: &Schema, bytes: &[u8]) -> Result<SegmentSet, FileFault>
     ensures view { IfOk result (λ set. IsFileOf schema.now set.view bytes.now) }
     ensures schema { IfOk result (λ set. set.schema ≡ schema.now) }
@@ -449,7 +450,7 @@ pub fn read(alloc: Global, schema: &Schema, bytes: &[u8]) -> Result<SegmentSet, 
     };
     read_behind(
         alloc,
-        &SegmentSet::new(alloc, copied),
+        &SegmentSet::lazy(alloc, copied),
         version,
         &Hashed::bare(bytes),
         records,
