@@ -1,5 +1,5 @@
 //! Keeps what has come of a delivery stream.
-ghost use Rattle.std.specs.Prelude.{◌≡◌, ◌<◌, ◌≤◌, ◌-◌, ◌⊎◌, [], ◌++◌, true, false, Some, None, Err, OnOk, OnErr, drop, length};
+ghost use Rattle.std.specs.Prelude.{◌≡◌, ◌<◌, ◌≤◌, ◌-◌, ◌⊎◌, [], ◌++◌, true, false, Some, None, Err, IsOk, OnOk, OnErr, drop, length};
 ghost use Rattle.std.specs.Prelude.{vec_len};
 ghost use Rattle.std.specs.Borrow.{sem};
 ghost use Rattle.std.specs.Io.BufRead.{Rests};
@@ -124,7 +124,7 @@ impl Inbox {
     }
 
     /// Adds a piece of the stream at the end. Where the stream was found bad, the inbox stays as it is; where memory runs out, what
-    /// it holds does. Else nothing was handed out since.
+    /// it holds does. Else nothing was handed out since. An empty piece needs no memory.
     pub fn push(&mut self, piece: &[u8]) -> Result<(), PushFault>
         ensures ok { OnOk result (self.new.held ≡ self.old.held ++ piece.now) }
         ensures good { OnOk result (self.old.is_bad ≡ false) }
@@ -134,6 +134,7 @@ impl Inbox {
         ensures err { OnErr result (self.new.held ≡ self.old.held) }
         ensures kept { self.old.is_bad ≡ true → self.new ≡ self.old }
         ensures handed { self.old.is_bad ≡ false → self.new.handed ≡ Some None }
+        ensures needless { self.old.is_bad ≡ false → piece.now ≡ [] → IsOk result }
     {
         if self.is_bad {
             return Err(PushFault::Bad);
