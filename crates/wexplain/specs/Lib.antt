@@ -1,3 +1,4 @@
 pub mod Items
 pub mod Places
 pub mod Refusals
+pub mod Stores

@@ -1,10 +1,11 @@
 //! Why a subcommand was refused.
-ghost use Rattle.std.specs.Prelude.{◌≡◌, ◌≢◌, IfOk, IfSome, IsSome, codes, string_bytes};
+ghost use Rattle.std.specs.Prelude.{◌≡◌, ◌≢◌, true, false, IfOk, IfSome, IsSome, codes, option_map, string_bytes};
 ghost use Rattle.wshown.specs.Shown.{BeginsWith};
 ghost use Rattle.wsentences.specs.Labels.{file_label, name_label, segment_label, table_label};
 ghost use Rattle.wvalues.specs.declared.name.NameFault.{NameFault};
 ghost use Rattle.wsegment.specs.declared.schema_fault.SchemaFault.{SchemaFault};
 ghost use Rattle.wexplain.specs.Refusals.{BeginsWithLabel, Explains, IsDeclared, IsOfQuery, IsOfWords, RefusesQuery, refusal_line};
+ghost use Rattle.wexplain.specs.Stores.{IsAtFault, IsWhole};
 
 use crate::exchange_file::explain_file;
 use crate::query::explain_query;
@@ -57,11 +58,22 @@ pub struct Given<'p, 't, 's, 'w, 'o> {
     pub query: Option<&'w str>,
 }
 
-// Whether a store can be read.
-fn is_whole(alloc: Global, schema: &Schema, store: &Option<Input<'_, '_>>) -> bool {
-    match store {
-        Some(store) => read(alloc, schema, store.bytes).is_ok(),
-        None => true,
+// Whether a store can be read, if there is one.
+fn is_whole(
+    alloc: Global,
+    schema: &Schema,
+    store: &Option<Input<'_, '_>>,
+) -> Result<bool, AllocError>
+    ensures whole { IfOk result (λ whole. whole ≡ true → IsWhole schema.now (option_map (λ input. input.bytes.now) store.now)) }
+    ensures fault { IfOk result (λ whole. whole ≡ false → IsAtFault schema.now (option_map (λ input. input.bytes.now) store.now)) }
+{
+    let Some(store) = store else {
+        return Ok(true);
+    };
+    match read(alloc, schema, store.bytes) {
+        Ok(_) => Ok(true),
+        Err(FileFault::NoMemory) => Err(AllocError),
+        Err(_) => Ok(false),
     }
 }
 
@@ -75,7 +87,7 @@ fn told_file(
     ensures { IfOk result (λ answer. IfSome answer (λ text. BeginsWith (file_label fault) (string_bytes text))) }
 {
     if let Some(other) = given.other
-        && is_whole(alloc, schema, &given.store)
+        && is_whole(alloc, schema, &given.store)?
     {
         let text = explain_file(alloc, other.path, schema, other.bytes, fault)?;
         return Ok(Some(text));

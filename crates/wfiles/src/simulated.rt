@@ -25,6 +25,7 @@ impl<'a> Simulated<'a> {
     pub fn new(disk: Disk, path: &str, calls_left: usize) -> Simulated<'a>
         ensures sound { NothingFailed result.system }
         ensures locked { IsLocked path.now result.trace.calls }
+        ensures disk { result.disk ≡ disk }
     {
         let mut trace = Record::new();
         trace.note_call(CallKind::Locked, true, path.as_bytes(), &[]);
@@ -37,7 +38,9 @@ impl<'a> Simulated<'a> {
     }
 
     /// What it holds now.
-    pub fn disk(&self) -> &Disk {
+    pub fn disk(&self) -> &Disk
+        ensures { result.now ≡ self.now.disk }
+    {
         &self.disk
     }
 

@@ -8,7 +8,7 @@ use crate::failure::Failure;
 use crate::replies::{answer_text, file_of, push_message, push_text, reply_text};
 use std::alloc::{AllocError, Global};
 use wask::{accepted_is_sound, ask};
-use wexchange::read;
+use wexchange::{Hashed, read_beside};
 use wlexer::lex;
 use wparser::parse;
 use wplan::Resolved;
@@ -64,9 +64,13 @@ impl Sound {
     }
 }
 
-/// The set that a file tells.
+/// The set that a file tells, which has its cells.
 pub fn set_of(alloc: Global, schema: &Schema, file: &str) -> Result<SegmentSet, Failure> {
-    match read(alloc, schema, file.as_bytes()) {
+    let Ok(copied) = schema.copy() else {
+        return Err(Failure::Case);
+    };
+    let empty = SegmentSet::new(alloc, copied);
+    match read_beside(alloc, &empty, &Hashed::bare(file.as_bytes())) {
         Ok(set) => Ok(set),
         Err(_) => Err(Failure::Case),
     }

@@ -1,5 +1,6 @@
 //! Orders of rows that several windows share.
-ghost use Rattle.std.specs.Prelude.{◌≡◌, ◌≤◌, ◌<◌, ◌+◌, if◌then◌else◌, Ok, IfSome, List, OnOk, length, slice_index_or};
+ghost use Rattle.std.specs.Prelude.{◌≡◌, ◌≤◌, ◌<◌, ◌+◌, ◌-◌, ◌^◌, if◌then◌else◌, List, length, min, slice_index_or};
+ghost use Rattle.std.specs.Prelude.{Ok, IfSome, OnErr, OnOk};
 ghost use Rattle.std.specs.List.{list_any};
 ghost use Rattle.std.specs.Option.{is_some};
 ghost use Rattle.wplan.specs.Plans.{window_plan};
@@ -76,6 +77,8 @@ fn new_order<'a>(
     ensures taken { length presorted.new.items + (if list_any (presorts window.now) presorted.old.items then 1 else 0)
         ≡ length presorted.old.items }
     ensures made { made.new ≤ made.old + 1 }
+    ensures counted { OnOk result (made.new ≡ min (made.old + 1) (2 ^ 64 - 1)) }
+    ensures none { OnErr result (made.new ≡ made.old) }
 {
     match take_presorted(presorted, window) {
         Some(taken) => WindowOrder::presorted(alloc, window, rows, taken, made),
@@ -100,6 +103,9 @@ pub(crate) fn order_of<'a>(
     ensures presorted { ArePresortedOf (rows_seen rows.now) presorted.new.items }
     ensures fewer { length kept.new.items + (if list_any (serves window.now) kept.old.items then 1 else 0) ≡ length kept.old.items }
     ensures made { made.new ≤ made.old + (if list_any (serves window.now) kept.old.items then 0 else 1) }
+    ensures counted { OnOk result (made.new ≡ (if list_any (serves window.now) kept.old.items then made.old
+        else min (made.old + 1) (2 ^ 64 - 1))) }
+    ensures none { OnErr result (made.new ≡ made.old) }
 {
     match take_shared(kept, window) {
         Some(order) => Ok(order),

@@ -1,5 +1,6 @@
 //! What one SELECT answers.
-ghost use Rattle.std.specs.Prelude.{◌≡◌, ◌<◌, ◌^◌, true, false, IfNone, IfOk, IfSome, List, None, Ok, Some, length};
+ghost use Rattle.std.specs.Prelude.{◌≡◌, ◌<◌, ◌+◌, ◌-◌, ◌^◌, ◌==◌, if◌then◌else◌, true, false, List, length, min};
+ghost use Rattle.std.specs.Prelude.{IfNone, IfOk, IfSome, None, Ok, Some};
 ghost use Rattle.std.specs.Option.{ForSome};
 ghost use Rattle.wvalues.specs.Meaning.{Meaning};
 ghost use Rattle.wplan.specs.Plans.{grouping_plan, select_plan};
@@ -33,7 +34,9 @@ use wtable::{
 use wvalues::Value;
 
 // Counts the order that ORDER BY asks for, if there is one.
-fn count_order(select: &Selection, orders: &mut Tally) {
+fn count_order(select: &Selection, orders: &mut Tally)
+    ensures { orders.new ≡ (if length select.now.keys.items == 0 then orders.old else min (orders.old + 1) (2 ^ 64 - 1)) }
+{
     if !select.keys.is_empty() {
         orders.add(1);
     }

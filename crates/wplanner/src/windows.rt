@@ -1,5 +1,6 @@
 //! The columns of the calls with OVER.
-ghost use Rattle.std.specs.Prelude.{◌≡◌, ◌≤◌, ◌<◌, ◌+◌, ◌^◌, if◌then◌else◌, [], true, IfOk, OnOk, length, map, slice_index_or};
+ghost use Rattle.std.specs.Prelude.{◌≡◌, ◌≤◌, ◌<◌, ◌+◌, ◌-◌, ◌^◌, if◌then◌else◌, [], true, length, map, min, slice_index_or};
+ghost use Rattle.std.specs.Prelude.{IfOk, OnOk};
 ghost use Rattle.std.specs.List.{list_all, list_any};
 ghost use Rattle.wcolumns.specs.Columns.{column_seen, columns_in, columns_seen};
 ghost use Rattle.wplan.specs.Plans.{call_plan, window_plan};
@@ -68,6 +69,8 @@ fn answers_over<'a>(
     ensures let_go { OnOk result (length kept.new.items + (if list_any (serves window.entry.now) kept.old.items then 1 else 0)
         ≡ length kept.old.items + (if list_any (is_same_order window.entry.now) later.now then 1 else 0)) }
     ensures made { work.new.orders ≤ work.old.orders + (if list_any (serves window.entry.now) kept.old.items then 0 else 1) }
+    ensures counted { OnOk result (work.new.orders ≡ (if list_any (serves window.entry.now) kept.old.items then work.old.orders
+        else min (work.old.orders + 1) (2 ^ 64 - 1))) }
     ensures joins { work.new.joins ≤ work.old.joins + most_of_functions
         (frame_of (window_plan window.entry.now).frame).exclusion (length rows.now) (functions_over (map call_plan calls.now) number) }
 {
