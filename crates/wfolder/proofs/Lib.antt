@@ -1,4 +1,5 @@
 pub mod Crash
+pub mod Distinct
 pub mod Does
 pub mod Ends
 pub mod Memory

@@ -1,6 +1,6 @@
 -- What the lists of a disk in memory are as a disk of the model.
 use Rattle.std.proofs.Common.{◌≡◌, ◌≢◌, ◌∙◌, ◌+◌, ◌-◌, ◌<◌, ◌≤◌, ◌⊎◌, ◌++◌, ℕ, Bool, true, false, cond, List, [], ◌∷◌, Option, None, Some}
-use Rattle.std.proofs.Common.{Result, Ok, Err, OnOk, OnErr, inl, inr, refl, sym, ap, subst, arith}
+use Rattle.std.proofs.Common.{inl, inr, refl, sym, ap, subst, arith}
 use Rattle.std.proofs.Common.{append_assoc, drop, get_or, length, map, nat_lt, option_map, take, not, set, string_bytes}
 use Rattle.std.specs.Prelude.{reverse}
 use Rattle.std.proofs.lemmas.List.{append-nil, get_or-map, length-map, map-append, map-set, reverse-append, set-get_or, take-append-drop}
@@ -238,19 +238,6 @@ led_same path es r k e f is some at same =
     map-set leading_of es k f
     ∙ ap (λ (x : Leading). set (map leading_of es) k x) (same ∙ sym g.0)
     ∙ set-get_or (map leading_of es) k (leading_of e)
-
--- numbers are known in any of two cases
-pub known_by : {E : Type 0} (r : Result (Unit {0}) E) (file : Option ℕ) (path : List ℕ) (old new : List Leading) (count : ℕ)
-    → IsKnown count file → AreKnown count old → OnOk r (new ≡ led path file old) → OnErr r (new ≡ old) → AreKnown count new
-known_by (Ok t) file path old new count is known ok err = subst (AreKnown count) (sym ok) (known_led path file old count is known)
-known_by (Err e) file path old new count is known ok err = subst (AreKnown count) (sym err) known
-
-pub known_push : (b : Bool) (file : Option ℕ) (path : List ℕ) (es new : List Entry) (e : Entry) (count : ℕ) → IsKnown count file
-    → AreKnown count (map leading_of es) → new ≡ cond b (es ++ e ∷ []) es
-    → map leading_of (es ++ e ∷ []) ≡ led path file (map leading_of es) → AreKnown count (map leading_of new)
-known_push true file path es new e count is known same leads = subst (AreKnown count) (sym (ap (map leading_of) same ∙ leads))
-    (known_led path file (map leading_of es) count is known)
-known_push false file path es new e count is known same leads = subst (AreKnown count) (sym (ap (map leading_of) same)) known
 
 -- a path that was led nowhere yet
 pub new_leading : (p path : List ℕ) (file : Option ℕ) (earlier : List (Option ℕ)) → p ≡ path → earlier ≡ None ∷ []

@@ -1,8 +1,9 @@
 -- The paths and the files of a disk in memory, as lists, what each call does to these, and what they are as a disk of the model.
-use Rattle.std.specs.Prelude.{◌≡◌, ◌<◌, ℕ, Bool, true, false, if◌then◌else◌, List, [], ◌∷◌, ◌++◌, map, reverse, length, take, drop}
+use Rattle.std.specs.Prelude.{◌≡◌, ◌<◌, ◌&&◌, not, ℕ, Bool, true, false, if◌then◌else◌, List, [], ◌∷◌, ◌++◌, map, reverse, length, take}
+use Rattle.std.specs.Prelude.{drop}
 use Rattle.std.specs.Prelude.{Option, None, Some, IfSome, is_some, option_map, bytes_eq, codes, nat_eq, set, slice_get, slice_index_or}
 use Rattle.std.specs.Prelude.{string_bytes}
-use Rattle.std.specs.List.{filter_map, flat_map, range_with_len, starts_with}
+use Rattle.std.specs.List.{filter_map, flat_map, list_any, range_with_len, starts_with}
 use Rattle.std.specs.Borrow.{Bor}
 use Rattle.wfolder.specs.Model.{Disk, IsAmong}
 use Rattle.wfolder.specs.declared.disk.Entry.{Entry}
@@ -44,6 +45,15 @@ may_lead path (e ∷ es) = if bytes_eq e.path path then e.file ∷ reverse e.ear
 -- it is the entry of its path
 abbrev pub IsEntry : List Leading → Leading → Type 0
 IsEntry es e = may_lead e.path es ≡ e.file ∷ reverse e.earlier
+
+-- one of them has this path
+abbrev pub has_path : List ℕ → List Leading → Bool
+has_path path es = list_any (λ e. bytes_eq e.path path) es
+
+-- no two have one path
+abbrev pub are_distinct : List Leading → Bool
+are_distinct [] = true
+are_distinct (e ∷ es) = not (has_path e.path es) && are_distinct es
 
 -- one path is led to a file or to none
 abbrev pub relinked : Option ℕ → Leading → Leading

@@ -5,7 +5,8 @@ ghost use Rattle.std.specs.Prelude.{◌⊎◌, Bool, bytes_eq, false, is_none, i
 ghost use Rattle.std.specs.List.{AllByRecursion};
 ghost use Rattle.wfolder.specs.Call.{Moved, Removed, Synced, SyncedFolder, Wrote, made_or_taken};
 ghost use Rattle.wfolder.specs.Model.{Does, MayHold};
-ghost use Rattle.wfolder.specs.Memory.{AreKnown, IsEntry, IsKnown, appended, behind, brought, changed, file_at, held_by, leading_of, leads};
+ghost use Rattle.wfolder.specs.Memory.{AreKnown, IsEntry, IsKnown, appended, are_distinct, behind, brought, changed, file_at, held_by};
+ghost use Rattle.wfolder.specs.Memory.{leading_of, leads};
 ghost use Rattle.wfolder.specs.Memory.{led, new_name, new_names, relinked, settled, shorter_states, states_at, states_of, states_under};
 ghost use Rattle.wfolder.specs.Memory.{written_file};
 
@@ -124,6 +125,7 @@ pub struct Disk {
     files: Vec<Written>,
     entries: Vec<Entry>,
     ghost known: { AreKnown (vec_len files) (map leading_of entries.items) },
+    ghost distinct: { are_distinct (map leading_of entries.items) ≡ true },
 }
 
 impl Disk {
@@ -144,7 +146,8 @@ impl Disk {
 
     /// Each path that led to a file.
     pub fn entries(&self) -> &[Entry]
-        ensures { map leading_of result.now ≡ entries_of self.now }
+        ensures listed { map leading_of result.now ≡ entries_of self.now }
+        ensures each { AllByRecursion (IsEntry (entries_of self.now)) (map leading_of result.now) }
     {
         self.entries.as_slice()
     }

@@ -1,5 +1,9 @@
 //! Where in a query the name stands that breaks a rule.
 
+ghost use Rattle.std.specs.Prelude.{◌≡◌, IfOk};
+ghost use Rattle.wspots.specs.Scene.{tokens_of};
+ghost use Rattle.wspots.specs.Breaches.{IsAmong, IsSpot, earlier_of};
+
 use crate::calls::{
     long_grouping, misplaced_aggregate, misplaced_function, misplaced_grouping, wrong_call,
     wrong_filter,
@@ -31,16 +35,23 @@ pub(crate) struct Spot {
 }
 
 // A table that is not the declared one.
-fn other_table(scene: &Scene<'_>, number: usize) -> Option<Breach> {
+#[tactic(auto, using(crate::proofs::Within::name_within))]
+fn other_table(scene: &Scene<'_>, number: usize) -> Option<Breach>
+    ensures { IsAmong (tokens_of scene.now) result }
+{
     let mark = scene.mark_of(number, Role::Table)?;
-    if name_at(scene.written.tokens, mark.token) == Some(scene.written.schema.table()) {
+    let name = name_at(scene.written.tokens, mark.token)?;
+    if name == scene.written.schema.table() {
         return None;
     }
     Some(Breach::at(mark.token, Told::Table))
 }
 
 // What stands before a dot, and is not the name of the source.
-fn other_source(scene: &Scene<'_>, number: usize) -> Option<Breach> {
+#[tactic(auto, using(crate::proofs::Within::source_within))]
+fn other_source(scene: &Scene<'_>, number: usize) -> Option<Breach>
+    ensures { IsAmong (tokens_of scene.now) result }
+{
     let mark = scene.mark_of(number, Role::Identifier)?;
     let qualifier = scene.column(number)?.qualifier?;
     if qualifier == scene.alias() {
@@ -50,7 +61,9 @@ fn other_source(scene: &Scene<'_>, number: usize) -> Option<Breach> {
 }
 
 // A column that the source lacks.
-fn missing_column(scene: &Scene<'_>, number: usize) -> Option<Breach> {
+fn missing_column(scene: &Scene<'_>, number: usize) -> Option<Breach>
+    ensures { IsAmong (tokens_of scene.now) result }
+{
     let named = scene.column(number)?;
     if has_column(scene.columns, named.name) || scene.is_output(number, &named) {
         return None;
@@ -65,7 +78,9 @@ fn second_named(columns: &[SourceColumn], name: &str, first: usize) -> Option<us
 }
 
 // A name that two columns have, or two items.
-fn ambiguous_name(scene: &Scene<'_>, number: usize) -> Option<Breach> {
+fn ambiguous_name(scene: &Scene<'_>, number: usize) -> Option<Breach>
+    ensures { IsAmong (tokens_of scene.now) result }
+{
     let named = scene.column(number)?;
     if scene.is_output(number, &named) {
         let (one, other) = scene.outputs.two_called(named.name)?;
@@ -92,7 +107,10 @@ fn windows_told(copier: Option<usize>) -> Told {
 }
 
 // The window that is used or copied at a mark, which no entry defines that may be meant.
-fn unknown_window(scene: &Scene<'_>, number: usize) -> Option<Breach> {
+#[tactic(auto, using(crate::proofs::Within::name_within))]
+fn unknown_window(scene: &Scene<'_>, number: usize) -> Option<Breach>
+    ensures { IsAmong (tokens_of scene.now) result }
+{
     let mark = scene.mark(number)?;
     if mark.role != Role::Use && mark.role != Role::Copy {
         return None;
@@ -109,7 +127,10 @@ fn unknown_window(scene: &Scene<'_>, number: usize) -> Option<Breach> {
 }
 
 // A WINDOW entry whose name an earlier one has.
-fn repeated_window(scene: &Scene<'_>, number: usize) -> Option<Breach> {
+#[tactic(auto, using(crate::proofs::Within::name_within))]
+fn repeated_window(scene: &Scene<'_>, number: usize) -> Option<Breach>
+    ensures { IsAmong (tokens_of scene.now) result }
+{
     let mark = scene.mark_of(number, Role::Entry)?;
     let name = name_at(scene.written.tokens, mark.token)?;
     let first = scene.entries.get(name)?;
@@ -120,7 +141,10 @@ fn repeated_window(scene: &Scene<'_>, number: usize) -> Option<Breach> {
 }
 
 // A literal in ORDER BY that is no place of an item.
-fn wrong_place(scene: &Scene<'_>, number: usize) -> Option<Breach> {
+#[tactic(auto, using(crate::proofs::Within::wrong_within))]
+fn wrong_place(scene: &Scene<'_>, number: usize) -> Option<Breach>
+    ensures { IsAmong (tokens_of scene.now) result }
+{
     let begin = scene.mark_of(number, Role::KeyBegin)?;
     let end = scene.mark_of(number.saturating_add(1), Role::KeyEnd)?;
     let key = scene.written.tokens.get(begin.token..end.token)?;
@@ -131,7 +155,9 @@ fn wrong_place(scene: &Scene<'_>, number: usize) -> Option<Breach> {
 }
 
 // What breaks a rule at the mark of this number.
-fn breach_at(scene: &Scene<'_>, number: usize, rule: Rule) -> Option<Breach> {
+fn breach_at(scene: &Scene<'_>, number: usize, rule: Rule) -> Option<Breach>
+    ensures { IsAmong (tokens_of scene.now) result }
+{
     match rule {
         Rule::UnknownTable => match other_table(scene, number) {
             Some(breach) => Some(breach),
@@ -152,7 +178,9 @@ fn breach_at(scene: &Scene<'_>, number: usize, rule: Rule) -> Option<Breach> {
 }
 
 // What breaks a rule at the token of this number, which is no name.
-fn breach_at_token(scene: &Scene<'_>, number: usize, rule: Rule) -> Option<Breach> {
+fn breach_at_token(scene: &Scene<'_>, number: usize, rule: Rule) -> Option<Breach>
+    ensures { IsAmong (tokens_of scene.now) result }
+{
     match rule {
         Rule::WrongCall => long_grouping(scene, number),
         Rule::MisplacedAggregate => misplaced_grouping(scene, number),
@@ -162,7 +190,9 @@ fn breach_at_token(scene: &Scene<'_>, number: usize, rule: Rule) -> Option<Breac
 }
 
 // The first name of a SELECT that breaks a rule.
-fn first_name(scene: &Scene<'_>, rule: Rule) -> Option<Breach> {
+fn first_name(scene: &Scene<'_>, rule: Rule) -> Option<Breach>
+    ensures { IsAmong (tokens_of scene.now) result }
+{
     for number in 0..scene.written.marks.len() {
         let breach = breach_at(scene, number, rule);
         if breach.is_some() {
@@ -173,7 +203,9 @@ fn first_name(scene: &Scene<'_>, rule: Rule) -> Option<Breach> {
 }
 
 // The first other token of a SELECT that breaks a rule.
-fn first_token(scene: &Scene<'_>, rule: Rule) -> Option<Breach> {
+fn first_token(scene: &Scene<'_>, rule: Rule) -> Option<Breach>
+    ensures { IsAmong (tokens_of scene.now) result }
+{
     if !matches!(
         rule,
         Rule::WrongCall | Rule::MisplacedAggregate | Rule::UngroupedColumn
@@ -190,7 +222,9 @@ fn first_token(scene: &Scene<'_>, rule: Rule) -> Option<Breach> {
 }
 
 // The one of two that stands before the other.
-fn earlier(one: Option<Breach>, other: Option<Breach>) -> Option<Breach> {
+fn earlier(one: Option<Breach>, other: Option<Breach>) -> Option<Breach>
+    ensures { result ≡ earlier_of one other }
+{
     match (one, other) {
         (Some(one), Some(other)) if other.token < one.token => Some(other),
         (Some(one), _) => Some(one),
@@ -199,7 +233,9 @@ fn earlier(one: Option<Breach>, other: Option<Breach>) -> Option<Breach> {
 }
 
 // The first place in a SELECT where a rule is broken, and what is told of it.
-fn find_in(alloc: Global, scene: &Scene<'_>, rule: Rule) -> Result<Option<Spot>, AllocError> {
+fn find_in(alloc: Global, scene: &Scene<'_>, rule: Rule) -> Result<Option<Spot>, AllocError>
+    ensures { IfOk result (λ found. IsSpot (tokens_of scene.now) found) }
+{
     let Some(breach) = earlier(first_name(scene, rule), first_token(scene, rule)) else {
         return Ok(None);
     };
@@ -233,7 +269,9 @@ fn find_over(
     select: &Query,
     level: usize,
     rule: Rule,
-) -> Result<Option<Spot>, AllocError> {
+) -> Result<Option<Spot>, AllocError>
+    ensures { IfOk result (λ found. IsSpot written.entry.tokens.now found) }
+{
     let scene = Scene::new(alloc, written, columns, select, level)?;
     find_in(alloc, &scene, rule)
 }
@@ -244,7 +282,9 @@ fn find_written(
     written: Written<'_>,
     query: &Query,
     rule: Rule,
-) -> Result<Option<Spot>, AllocError> {
+) -> Result<Option<Spot>, AllocError>
+    ensures { IfOk result (λ found. IsSpot written.entry.tokens.now found) }
+{
     let selects = selects_of(alloc, query)?;
     let mut columns = declared_columns(alloc, written.schema)?;
     for (level, select) in selects.iter().enumerate().rev() {
@@ -268,7 +308,9 @@ pub(crate) fn find_name(
     tokens: &[Token],
     query: &Query,
     rule: Rule,
-) -> Result<Option<Spot>, AllocError> {
+) -> Result<Option<Spot>, AllocError>
+    ensures { IfOk result (λ found. IsSpot tokens.now found) }
+{
     let followed = follow(alloc, tokens)?;
     let clauses = Clauses::new(alloc, tokens)?;
     let written = Written {

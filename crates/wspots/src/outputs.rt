@@ -1,5 +1,8 @@
 //! The items of a SELECT by their names, `*` written out.
 
+ghost use Rattle.std.specs.Prelude.{◌≡◌};
+ghost use Rattle.wspots.specs.Items.{has_item, two_called, count_behind};
+
 use std::alloc::{AllocError, Global};
 use std::collections::BTreeMap;
 use wquery::{Expression, Item};
@@ -70,17 +73,23 @@ impl<'a> Outputs<'a> {
     }
 
     /// How many there are.
-    pub(crate) fn len(&self) -> usize {
+    pub(crate) fn len(&self) -> usize
+        ensures { result ≡ self.now.count }
+    {
         self.count
     }
 
     /// Whether some item has this name.
-    pub(crate) fn has(&self, name: &str) -> bool {
+    pub(crate) fn has(&self, name: &str) -> bool
+        ensures { result ≡ has_item self.now name.now }
+    {
         self.first.contains_key(name)
     }
 
     /// The places of two different items of one name, from 0.
-    pub(crate) fn two_called(&self, name: &str) -> Option<(usize, usize)> {
+    pub(crate) fn two_called(&self, name: &str) -> Option<(usize, usize)>
+        ensures { result ≡ two_called self.now name.now }
+    {
         let first = self.first.get(name)?;
         let other = self.other.get(name)?;
         Some((first.place, *other))
@@ -154,9 +163,11 @@ impl<'a> Outputs<'a> {
 }
 
 /// How many items a SELECT has over so many columns, `*` written out.
-pub(crate) fn count_items(columns: usize, items: &[Item]) -> usize {
+pub(crate) fn count_items(columns: usize, items: &[Item]) -> usize
+    ensures { result ≡ count_behind columns 0 items.now }
+{
     let mut count = 0usize;
-    for item in items {
+    'items: for item in items {
         let more = match item {
             Item::All => columns,
             Item::Value { .. } => 1,

@@ -1,5 +1,15 @@
 //! A SELECT in its text, and the names in it.
 
+ghost use Rattle.std.specs.Prelude.{◌≡◌, ◌<◌, ◌&&◌, length, IfOk, IfSome, is_none, option_map};
+ghost use Rattle.std.specs.List.{list_all};
+ghost use Rattle.wlexer.specs.Token.{lexeme_meaning};
+ghost use Rattle.wquery.specs.QueryTree.{view_source};
+ghost use Rattle.wclauses.specs.Pairs.{arguments, has_filter, has_over, is_group_call};
+ghost use Rattle.wspots.specs.Scene.{spelled, column_at, tokens_of, pairs_of, source_name, mark_at, mark_of, column, function};
+ghost use Rattle.wspots.specs.Scene.{is_key, has_token};
+ghost use Rattle.wspots.specs.Items.{has_item};
+ghost use Rattle.wspots.specs.Keys.{is_parenthesis, is_place, is_wrong_key, says_sign, wrong_literal};
+
 use crate::outputs::Outputs;
 use std::alloc::{AllocError, Global};
 use std::collections::{BTreeMap, BTreeSet};
@@ -53,7 +63,11 @@ pub(crate) struct Named<'a> {
 }
 
 /// The column that is named at a token, if it is none of a function.
-pub(crate) fn column_at(tokens: &[Token], number: usize) -> Option<Named<'_>> {
+#[tactic(auto, using(crate::proofs::Within::name_within))]
+pub(crate) fn column_at(tokens: &[Token], number: usize) -> Option<Named<'_>>
+    ensures column { option_map spelled result ≡ column_at tokens.now number }
+    ensures among { IfSome result (λ named. named.token < length tokens.now) }
+{
     if is_called(tokens, number) {
         return None;
     }
@@ -152,6 +166,20 @@ fn first_ungrouped(columns: &[SourceColumn], grouped: &BTreeSet<&str>) -> Option
     None
 }
 
+// The name of a source, as its columns are written behind it.
+#[tactic(auto, unfolding(wquery::specs::QueryTree::view_source))]
+fn alias_of(source: &Source) -> &str
+    ensures { result.now ≡ source_name (view_source source.now) }
+{
+    match source {
+        Source::Table { name, alias } => match alias {
+            Some(alias) => alias.as_str(),
+            None => name.as_str(),
+        },
+        Source::Derived { alias, .. } => alias.as_str(),
+    }
+}
+
 impl<'a> Scene<'a> {
     /// The SELECT of a level over the columns of its source.
     pub(crate) fn new(
@@ -160,7 +188,9 @@ impl<'a> Scene<'a> {
         columns: &'a [SourceColumn],
         query: &'a Query,
         level: usize,
-    ) -> Result<Scene<'a>, AllocError> {
+    ) -> Result<Scene<'a>, AllocError>
+        ensures { IfOk result (λ scene. tokens_of scene ≡ written.entry.tokens.now) }
+    {
         let outputs = Outputs::new(alloc, columns, query.items.as_slice())?;
         let entries = entries_of(alloc, written.tokens, written.marks, level)?;
         let grouped = grouped_of(alloc, written, level)?;
@@ -184,18 +214,16 @@ impl<'a> Scene<'a> {
     }
 
     /// The name of the source, as its columns are written behind it.
-    pub(crate) fn alias(&self) -> &'a str {
-        match &self.query.source {
-            Source::Table { name, alias } => match alias {
-                Some(alias) => alias.as_str(),
-                None => name.as_str(),
-            },
-            Source::Derived { alias, .. } => alias.as_str(),
-        }
+    pub(crate) fn alias(&self) -> &'a str
+        ensures { result.now ≡ source_name (view_source self.now.query.now.source) }
+    {
+        alias_of(&self.query.source)
     }
 
     /// The mark of this number, if it is of this SELECT.
-    pub(crate) fn mark(&self, number: usize) -> Option<Mark> {
+    pub(crate) fn mark(&self, number: usize) -> Option<Mark>
+        ensures { result ≡ mark_at self.now number }
+    {
         match self.written.marks.get(number) {
             Some(mark) if mark.level == self.level => Some(*mark),
             _ => None,
@@ -203,7 +231,9 @@ impl<'a> Scene<'a> {
     }
 
     /// The mark of this number, if it is one of this role in this SELECT.
-    pub(crate) fn mark_of(&self, number: usize, role: Role) -> Option<Mark> {
+    pub(crate) fn mark_of(&self, number: usize, role: Role) -> Option<Mark>
+        ensures { result ≡ mark_of self.now number role }
+    {
         match self.mark(number) {
             Some(mark) if mark.role == role => Some(mark),
             _ => None,
@@ -211,13 +241,20 @@ impl<'a> Scene<'a> {
     }
 
     /// The column that the mark of this number names.
-    pub(crate) fn column(&self, number: usize) -> Option<Named<'a>> {
+    pub(crate) fn column(&self, number: usize) -> Option<Named<'a>>
+        ensures column { option_map spelled result ≡ column self.now number }
+        ensures among { IfSome result (λ named. named.token < length (tokens_of self.now)) }
+    {
         let mark = self.mark_of(number, Role::Identifier)?;
         column_at(self.written.tokens, mark.token)
     }
 
     /// The token of the function that the mark of this number names.
-    pub(crate) fn function(&self, number: usize) -> Option<usize> {
+    #[tactic(auto, using(crate::proofs::Within::called_within))]
+    pub(crate) fn function(&self, number: usize) -> Option<usize>
+        ensures function { result ≡ function self.now number }
+        ensures among { IfSome result (λ token. token < length (tokens_of self.now)) }
+    {
         let mark = self.mark_of(number, Role::Identifier)?;
         if is_called(self.written.tokens, mark.token) {
             return Some(mark.token);
@@ -226,7 +263,9 @@ impl<'a> Scene<'a> {
     }
 
     /// Whether the mark of this number is a key of ORDER BY by itself, in parentheses or not.
-    pub(crate) fn is_key(&self, number: usize) -> bool {
+    pub(crate) fn is_key(&self, number: usize) -> bool
+        ensures { result ≡ is_key self.now number }
+    {
         let Some(begin) = self.mark_of(number.saturating_sub(1), Role::KeyBegin) else {
             return false;
         };
@@ -240,7 +279,9 @@ impl<'a> Scene<'a> {
     }
 
     /// Whether a column stands for an item of its name: it is a key of ORDER BY by itself.
-    pub(crate) fn is_output(&self, number: usize, named: &Named<'_>) -> bool {
+    pub(crate) fn is_output(&self, number: usize, named: &Named<'_>) -> bool
+        ensures { result ≡ (is_none named.now.qualifier && (has_item self.now.outputs named.now.name.now && is_key self.now number)) }
+    {
         named.qualifier.is_none() && self.outputs.has(named.name) && self.is_key(number)
     }
 
@@ -250,7 +291,9 @@ impl<'a> Scene<'a> {
     }
 
     /// The arguments of the function at a token, or of GROUPING.
-    pub(crate) fn arguments(&self, token: usize) -> Arguments {
+    pub(crate) fn arguments(&self, token: usize) -> Arguments
+        ensures { result ≡ arguments (pairs_of self.now) (tokens_of self.now) token }
+    {
         self.written
             .clauses
             .pairs
@@ -258,7 +301,9 @@ impl<'a> Scene<'a> {
     }
 
     /// Whether the function at a token has FILTER.
-    pub(crate) fn has_filter(&self, token: usize) -> bool {
+    pub(crate) fn has_filter(&self, token: usize) -> bool
+        ensures { result ≡ has_filter (pairs_of self.now) (tokens_of self.now) token }
+    {
         self.written
             .clauses
             .pairs
@@ -266,7 +311,9 @@ impl<'a> Scene<'a> {
     }
 
     /// Whether the function at a token has OVER.
-    pub(crate) fn has_over(&self, token: usize) -> bool {
+    pub(crate) fn has_over(&self, token: usize) -> bool
+        ensures { result ≡ has_over (pairs_of self.now) (tokens_of self.now) token }
+    {
         self.written
             .clauses
             .pairs
@@ -274,7 +321,9 @@ impl<'a> Scene<'a> {
     }
 
     /// Whether the function at a token is an aggregate without OVER.
-    pub(crate) fn is_group_call(&self, token: usize) -> bool {
+    pub(crate) fn is_group_call(&self, token: usize) -> bool
+        ensures { result ≡ is_group_call (pairs_of self.now) (tokens_of self.now) token }
+    {
         self.written
             .clauses
             .pairs
@@ -282,7 +331,9 @@ impl<'a> Scene<'a> {
     }
 
     /// Whether a token is of this SELECT, and of none in it or around it.
-    pub(crate) fn has_token(&self, token: usize) -> bool {
+    pub(crate) fn has_token(&self, token: usize) -> bool
+        ensures { result ≡ has_token self.now token }
+    {
         match self.written.clauses.standing(token) {
             Some(standing) => standing.level == self.level,
             None => false,
@@ -291,12 +342,16 @@ impl<'a> Scene<'a> {
 }
 
 // Whether a number is the place of one of so many items.
-fn is_place(number: u128, items: usize) -> bool {
+fn is_place(number: u128, items: usize) -> bool
+    ensures { result ≡ is_place number items }
+{
     number >= 1 && number <= items as u128
 }
 
 // Whether a literal behind signs or none is no place of so many items. `None` at what is no literal.
-fn is_wrong_literal(lexeme: &Lexeme, has_sign: bool, items: usize) -> Option<bool> {
+fn is_wrong_literal(lexeme: &Lexeme, has_sign: bool, items: usize) -> Option<bool>
+    ensures { result ≡ wrong_literal has_sign items (lexeme_meaning lexeme.now) }
+{
     match lexeme {
         Lexeme::Number(number) => Some(has_sign || !is_place(number.get(), items)),
         Lexeme::Text(_) => Some(true),
@@ -305,22 +360,39 @@ fn is_wrong_literal(lexeme: &Lexeme, has_sign: bool, items: usize) -> Option<boo
     }
 }
 
-fn is_sign(lexeme: &Lexeme) -> bool {
+fn is_sign(lexeme: &Lexeme) -> bool
+    ensures { result ≡ says_sign (lexeme_meaning lexeme.now) }
+{
     matches!(lexeme, Lexeme::Symbol(Symbol::Plus | Symbol::Minus))
+}
+
+// Whether all of these are parentheses.
+fn are_parentheses(tokens: &[Token]) -> bool
+    ensures { result ≡ list_all is_parenthesis tokens.now }
+{
+    'tokens: for token in tokens {
+        if !is_parenthesis(token) {
+            return false;
+        }
+    }
+    true
 }
 
 /// Whether a key of ORDER BY is a literal that is no place of so many items: a number that is none, another literal, or
 /// one behind signs.
-pub(crate) fn is_wrong_key(key: &[Token], items: usize) -> bool {
+pub(crate) fn is_wrong_key(key: &[Token], items: usize) -> bool
+    ensures { result ≡ is_wrong_key key.now items }
+{
     let mut has_sign = false;
-    let mut parts = key.iter().filter(|token| !is_parenthesis(token));
-    for _ in 0..key.len() {
-        let Some(part) = parts.next() else {
-            return false;
-        };
+    let mut rest = key;
+    'parts: while let Some((part, behind)) = rest.split_first() {
+        rest = behind;
+        if is_parenthesis(part) {
+            continue;
+        }
         if !is_sign(&part.lexeme) {
             let is_wrong = is_wrong_literal(&part.lexeme, has_sign, items).unwrap_or(false);
-            return is_wrong && parts.next().is_none();
+            return is_wrong && are_parentheses(behind);
         }
         has_sign = true;
     }

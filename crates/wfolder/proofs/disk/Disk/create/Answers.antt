@@ -9,6 +9,7 @@ use Rattle.wfolder.proofs.disk.Disk.create.Goals as goal
 pub invariant_of-self : goal.invariant_of-self
 invariant_of-self c = record {
   known = known_more _ _ (entries_of c.args.self.now) c.push.ensures.lower_bound c.args.self.now.known;
+  distinct = c.args.self.now.distinct;
 }
 
 pub returns-clause-does : goal.returns-clause-does

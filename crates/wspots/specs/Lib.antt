@@ -1,0 +1,5 @@
+pub mod Scene
+pub mod Keys
+pub mod Breaches
+pub mod Items
+pub mod Notes
