@@ -1,6 +1,7 @@
 -- Each token settles the pairs further.
 use Rattle.std.proofs.Common.{◌≡◌, refl, sym, ap, ◌∙◌, subst, ℕ, zero, suc, ◌+◌, ◌<◌, ◌≤◌, List, []}
-use Rattle.std.proofs.Common.{◌∷◌, ◌++◌, length, set, take, drop, take_all, reverse, get_or, length-set, length-append, arith, Option, Some, None}
+use Rattle.std.proofs.Common.{◌∷◌, ◌++◌, length, set, take, drop, take_all, reverse, get_or, length-set, length-append, arith}
+use Rattle.std.proofs.Common.{Option, Some, None}
 use Rattle.std.proofs.lemmas.List.{append_assoc, append-nil, drop_all, reverse-append, set-append_left}
 use Rattle.std.proofs.lemmas.Grind.{common_steps, take-set_at}
 use Rattle.wlexer.specs.declared.token.Token.{Token}
