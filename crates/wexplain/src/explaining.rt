@@ -70,11 +70,13 @@ fn is_whole(
     let Some(store) = store else {
         return Ok(true);
     };
-    match read(alloc, schema, store.bytes) {
-        Ok(_) => Ok(true),
-        Err(FileFault::NoMemory) => Err(AllocError),
-        Err(_) => Ok(false),
+    let Err(fault) = read(alloc, schema, store.bytes) else {
+        return Ok(true);
+    };
+    if fault == FileFault::NoMemory {
+        return Err(AllocError);
     }
+    Ok(false)
 }
 
 // Explains the fault of a store, which is judged first, or of the other one.
