@@ -8,7 +8,7 @@ use Rattle.wquery.specs.Tree.{Tree, NullWord, Numeral, Quoted, Field, Invoked, N
 use Rattle.wquery.specs.Tree.{Among, Trees, NoTrees, MoreTrees, Links, NoLinks, Further, Given, Everything, These, Columns, Filter}
 use Rattle.wquery.specs.Tree.{Unfiltered, FilteredBy, Reach, ItsGroup, ThatWindow, OwnWindow, Keys, NoKeys, MoreKeys, KeyTree}
 use Rattle.wquery.specs.QueryTree.{Clauses, ItemTree, AllColumns, Computed}
-use Rattle.wsame.specs.Sameness.{is_same}
+use Rattle.wnodes.specs.Sameness.{is_same}
 use Rattle.wscope.specs.declared.look.Look.TheVariants.{Found, Below}
 use Rattle.wscope.specs.Finding.{finds}
 use Rattle.wscope.specs.Scope.{is_output, some_anywhere, some_entry, some_item, some_option, some_shown, some_sort}

@@ -10,7 +10,7 @@ use Rattle.wquery.specs.declared.frame.FrameMode.TheVariants.{Rows, Range, Group
 use Rattle.wquery.specs.declared.frame.FrameBound.{FrameBound}
 use Rattle.wquery.specs.declared.frame.FrameBound.TheVariants.{UnboundedPreceding, Preceding, CurrentRow, Following, UnboundedFollowing}
 use Rattle.wquery.specs.Tree.{Tree, Invoked, Reach, ItsGroup, ThatWindow, OwnWindow, Keys, NoKeys, MoreKeys}
-use Rattle.wsame.specs.Bounds.{end_of}
+use Rattle.wnodes.specs.Bounds.{end_of}
 use Rattle.wscope.specs.Types.{Titled}
 use Rattle.wscope.specs.Windows.{NamedWindow, Expanded, expand}
 use Rattle.wwindows.specs.Windows as rules

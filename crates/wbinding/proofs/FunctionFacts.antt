@@ -6,7 +6,7 @@ use Rattle.wquery.specs.declared.expression.Call.{Call}
 use Rattle.wquery.specs.Tree.{view_call, view_arguments, view_optional, filter_of}
 use Rattle.wscope.specs.declared.function.Function.{Function}
 use Rattle.wscope.specs.Functions.{function_of}
-use Rattle.wsame.proofs.Views.{view_call_is}
+use Rattle.wnodes.proofs.Views.{view_call_is}
 use Rattle.wplan.specs.declared.resolved.Aggregate.{Aggregate}
 use Rattle.wplan.specs.declared.resolved.WindowFunction.{WindowFunction}
 use Rattle.wplan.specs.Plans.{aggregate_plan, function_plan}

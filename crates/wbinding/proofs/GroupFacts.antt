@@ -11,8 +11,8 @@ use Rattle.wquery.specs.declared.expression.Expression.{Expression}
 use Rattle.wquery.specs.Tree.{Tree, Given, Everything, These, Columns, Reach, KeyTree, Branch, WindowTree, trees}
 use Rattle.wquery.specs.Tree.{views, view, view_call, view_arguments, view_optional, filter_of, arguments_step}
 use Rattle.wquery.specs.Tree.{expression_step, over_step, call_step, key_step, link_step, window_step}
-use Rattle.wsame.proofs.Equal.{view_of_listed, view_of_columns}
-use Rattle.wsame.proofs.Views.{view_call_is}
+use Rattle.wnodes.proofs.Equal.{view_of_listed, view_of_columns}
+use Rattle.wnodes.proofs.Views.{view_call_is}
 use Rattle.wscope.specs.Functions.{function_of}
 use Rattle.wscope.specs.Types.{Titled}
 use Rattle.wplan.specs.Plans.{AggregatePlan, GroupAggregate, GroupingOf}

@@ -17,7 +17,7 @@ use Rattle.wplan.specs.declared.expr.Further.{Further}
 use Rattle.wplan.specs.Formula.{Formula, Operand, chained, formula, formulas, operand_of, At, Among, MoreFormulas}
 use Rattle.wbinding.specs.Resolving.{Layout, resolved, resolved_links, resolved_trees, branch_made, width}
 use Rattle.wdistinct.specs.Places.{place_of_same}
-use Rattle.wsame.proofs.Views.{view_call_is, view_of_chain, view_of_call, view_of_in}
+use Rattle.wnodes.proofs.Views.{view_call_is, view_of_chain, view_of_call, view_of_in}
 use Rattle.wbinding.proofs.Views.{link_is, operand_is}
 
 made_links : (cs : Layout) (first : Formula) (front : Links) (bs : List Branch)

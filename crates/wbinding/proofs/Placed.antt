@@ -4,7 +4,7 @@ use Rattle.std.proofs.Common.{[], ◌∷◌, ◌++◌, length, get_or, refl, ap,
 use Rattle.std.specs.Prelude.{if◌then◌else◌}
 use Rattle.wquery.specs.declared.expression.Expression.{Expression}
 use Rattle.wquery.specs.Tree.{Tree, NullWord, view, views, trees}
-use Rattle.wsame.specs.Sameness.{is_same}
+use Rattle.wnodes.specs.Sameness.{is_same}
 use Rattle.wdistinct.specs.Places.{place_of_same}
 use Rattle.wbinding.specs.Functions.{tree_at}
 

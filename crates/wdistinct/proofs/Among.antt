@@ -7,10 +7,10 @@ use Rattle.std.proofs.lemmas.List.{map-append}
 use Rattle.std.proofs.lemmas.Option.{cond_some}
 use Rattle.std.proofs.lemmas.Bool.Decides.{nat_tests}
 use Rattle.wquery.specs.Tree.{Tree}
-use Rattle.wsame.specs.Sameness.{is_same}
+use Rattle.wnodes.specs.Sameness.{is_same}
 use Rattle.wdistinct.specs.Calls.{with_new}
 use Rattle.wdistinct.specs.Places.{place_of_same}
-use Rattle.wdistinct.specs.Same.{same_equiv}
+use Rattle.wnodes.specs.Plain.{same_equiv}
 
 -- what follows holds of an error
 pub on_err : {T E P Q : Type 0} (r : Result T E) → (P → Q) → OnErr r P → OnErr r Q

@@ -8,9 +8,9 @@ use Rattle.wquery.specs.declared.expression.Call.{Call}
 use Rattle.wquery.specs.declared.query.WindowEntry.{WindowEntry}
 use Rattle.wquery.specs.QueryTree.{view_entry}
 use Rattle.wquery.specs.Tree.{Tree, own_window, view_call, view_window, view_arguments, view_optional_over, reach_of}
-use Rattle.wsame.proofs.Views.{view_call_is}
-use Rattle.wscope.specs.Children.{children_of, found_all}
-use Rattle.wscope.proofs.Beside.{IsJoined, below_all}
+use Rattle.wnodes.proofs.Views.{view_call_is}
+use Rattle.wnodes.specs.Children.{children_of, found_all}
+use Rattle.wnodes.proofs.Beside.{IsJoined, below_all}
 use Rattle.wdistinct.specs.declared.distinct_calls.CallKind.{CallKind}
 use Rattle.wdistinct.specs.Calls.{is_kind, is_call_of, node_or, nodes_in, nodes_below, nodes_in_entries, nodes_in_reach, picking}
 

@@ -1,3 +1,2 @@
-mod Sketched
 mod Collected
 mod Among

@@ -9,8 +9,8 @@ use Rattle.wquery.specs.Tree.{ThatWindow, OwnWindow, Keys, KeyTree, own_window, 
 use Rattle.wquery.specs.QueryTree.{Clauses, ItemTree, AllColumns, Computed, EntryTree}
 use Rattle.wscope.specs.declared.function.Function.{Function}
 use Rattle.wscope.specs.Functions.{function_of, is_aggregate}
-use Rattle.wscope.specs.Seeking.{Findings, found, found_below, found_trees, found_links, found_given, found_filter, found_reach, found_keys}
-use Rattle.wsame.specs.Sameness.{is_same}
+use Rattle.wnodes.specs.Nodes.{Findings, found, found_below, found_trees, found_links, found_given, found_filter, found_reach, found_keys}
+use Rattle.wnodes.specs.Sameness.{is_same}
 use Rattle.wdistinct.specs.declared.distinct_calls.CallKind.{CallKind}
 use Rattle.wdistinct.specs.declared.distinct_calls.CallKind.TheVariants.{Grouped, Windowed}
 

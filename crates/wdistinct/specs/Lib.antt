@@ -1,5 +1,2 @@
 pub mod Calls
-pub mod Sketch
 pub mod Places
-pub mod Same
-pub mod Alike

@@ -2,7 +2,7 @@
 use Rattle.std.specs.Prelude.{ℕ, zero, suc, Bool, List, [], ◌∷◌, ◌++◌, map, if◌then◌else◌}
 use Rattle.std.specs.List.{list_any}
 use Rattle.wquery.specs.Tree.{Tree, view_call}
-use Rattle.wsame.specs.Sameness.{is_same}
+use Rattle.wnodes.specs.Sameness.{is_same}
 use Rattle.wdistinct.specs.declared.call_key.CallKey.{CallKey}
 use Rattle.wdistinct.specs.declared.call_set.CallSet.{CallSet}
 

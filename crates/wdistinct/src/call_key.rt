@@ -4,15 +4,14 @@ ghost use Rattle.std.specs.Cmp.{on_equiv, partial_equiv_from_equiv};
 ghost use Rattle.std.specs.Hash as fed;
 ghost use Rattle.std.proofs.Common.{ap};
 ghost use Rattle.wquery.specs.Tree.{view_call};
-ghost use Rattle.wsame.specs.Sameness.{is_same};
-ghost use Rattle.wdistinct.specs.Sketch.{sketch_of};
-ghost use Rattle.wdistinct.specs.Same.{same_equiv};
-ghost use Rattle.wdistinct.specs.Alike.{same_sketch};
+ghost use Rattle.wnodes.specs.Sameness.{is_same};
+ghost use Rattle.wnodes.specs.Sketch.{sketch_of};
+ghost use Rattle.wnodes.specs.Plain.{same_equiv};
+ghost use Rattle.wnodes.proofs.SketchLaws.{same_sketch};
 
-use crate::sketch::sketch;
 use std::hash::{Hash, Hasher};
 use wquery::Call;
-use wsame::same_call;
+use wnodes::{same_call, sketch};
 
 /// A call, which is equal to the calls that say the same.
 #[derive(Clone, Copy, Drop)]

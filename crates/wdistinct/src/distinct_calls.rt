@@ -6,7 +6,7 @@ ghost use Rattle.wquery.specs.Tree.{view_keys, view_optional, view_optional_over
 ghost use Rattle.wquery.specs.QueryTree.{view_item, view_entry};
 ghost use Rattle.std.specs.Rc.{rc_str_bytes};
 ghost use Rattle.wscope.specs.Functions.{function_of as function_named};
-ghost use Rattle.wscope.specs.Children.{found_all, nodes_left};
+ghost use Rattle.wnodes.specs.Children.{found_all, nodes_left};
 ghost use Rattle.wscope.specs.Clauses.{clauses_in};
 ghost use Rattle.wdistinct.specs.Calls.{group_calls as aggregates_of, window_calls as calls_over_windows, is_kind};
 ghost use Rattle.wdistinct.specs.Calls.{is_grouping as has_columns, is_call_of, is_aggregate_function as is_aggregate_of};
@@ -17,8 +17,9 @@ ghost use Rattle.wdistinct.specs.declared.distinct_calls.CallKind.TheVariants.{G
 
 use crate::call_set::CallSet;
 use std::alloc::{AllocError, Global};
+use wnodes::{Children, Node};
 use wquery::{Arguments, Call, Expression, Item, Key, Over, Query, Window, WindowEntry};
-use wscope::{Children, function_of};
+use wscope::function_of;
 
 /// The calls that are computed apart from the expressions that they stand in.
 #[derive(Clone, Copy, Drop)]
@@ -120,10 +121,7 @@ fn collect_below<'a>(
 ) -> Result<(), AllocError>
     ensures { OnOk result (call_trees calls.new.items ≡ call_trees calls.old.items ++ nodes_below (is_call_of kind) (view e.now)) }
 {
-    match Children::of(e) {
-        None => Ok(()),
-        Some(nodes) => collect_beside(kind, calls, nodes),
-    }
+    collect_beside(kind, calls, Node::of(e).children)
 }
 
 #[cycle(collecting)]

@@ -3,7 +3,7 @@
 ghost use Rattle.std.specs.Prelude.{◌≡◌, ◌≤◌, ◌^◌, ◌∷◌, [], length, false, unwrap_or, IfOk, OnErr, OnOk};
 ghost use Rattle.std.specs.List.{list_any};
 ghost use Rattle.wquery.specs.Tree.{view_call};
-ghost use Rattle.wsame.specs.Sameness.{is_same};
+ghost use Rattle.wnodes.specs.Sameness.{is_same};
 ghost use Rattle.wdistinct.specs.Calls.{call_trees, with_new};
 ghost use Rattle.wdistinct.specs.Places.{calls_in, has_call_of, place_of_same, with_key};
 

@@ -6,7 +6,7 @@
 //! - How, which no clause says: adding a call, or finding its place, takes time in proportion to the call and not to the number
 //!   of calls, but for calls whose hashes are made to meet.
 //! - Asks nothing. A walk goes as deep as the nesting alone.
-//! - Leaves to `wsame` when two calls are equal, to `wscope` which functions are aggregates and which nodes stand below one, to
+//! - Leaves to `wnodes` when two calls are equal, to `wscope` which functions are aggregates and which nodes stand below one, to
 //!   `wbinding` what calls stand for.
 //!
 //! Read `specs/Calls.antt`, `specs/Places.antt`; `specs/Sketch.antt` says what a call is hashed by: what each of its nodes says
@@ -17,7 +17,6 @@ mod call_key;
 mod call_set;
 mod distinct_calls;
 mod finding;
-mod sketch;
 
 pub use call_set::CallSet;
 pub use distinct_calls::{group_calls, window_calls};

@@ -4,9 +4,9 @@ use Rattle.std.specs.Rc.{rc_str_bytes}
 use Rattle.wquery.specs.declared.expression.Call.{Call}
 use Rattle.wquery.specs.declared.expression.Expression.{Expression}
 use Rattle.wquery.specs.Tree.{Tree, view, views, trees, view_call, view_arguments}
-use Rattle.wsame.proofs.Views.{view_call_is}
+use Rattle.wnodes.proofs.Views.{view_call_is}
 use Rattle.wscope.specs.declared.function.Function.{Function}
-use Rattle.wscope.specs.Finding.{count_trees}
+use Rattle.wnodes.specs.Nodes.{count_trees}
 use Rattle.wscope.specs.Functions.{function_of}
 use Rattle.wnames.specs.Calls.{passes_at, is_well_given, is_bad_call, counts_some, is_zeroth}
 

@@ -7,12 +7,12 @@ use Rattle.wquery.specs.declared.expression.Arguments.TheVariants as given
 use Rattle.wquery.specs.declared.expression.Expression.{Expression}
 use Rattle.wquery.specs.Tree.{Trees, Columns, Given, trees, views, view_arguments}
 use Rattle.wscope.specs.declared.function.Function.{Function}
-use Rattle.wscope.specs.Finding.{count_trees}
+use Rattle.wnodes.specs.Nodes.{count_trees}
 use Rattle.wscope.specs.Functions.{takes}
 use Rattle.wscope.specs.Types.{Titled}
 use Rattle.wnames.specs.Calls.{are_literal, is_well_given, most_grouping_columns}
 use Rattle.wnames.specs.Types.{all_trees, is_value, suits_function, are_typed}
-use Rattle.wsame.proofs.Equal.{view_of_listed, view_of_columns}
+use Rattle.wnodes.proofs.Equal.{view_of_listed, view_of_columns}
 
 pub listed_given : (a : Arguments) (f : Function) (v : Vec Expression Global) (us : List Expression) (r : Bool)
     → a ≡ given.Listed v → us ≡ v.items → r ≡ (takes f (count_trees (trees (views us))) && are_literal f (trees (views us)))

@@ -5,9 +5,9 @@ use Rattle.std.proofs.lemmas.List.Folds.{list_all-append}
 use Rattle.wquery.specs.declared.expression.ChainKind.{ChainKind}
 use Rattle.wquery.specs.declared.expression.ChainKind.TheVariants.{Disjunction, Conjunction, Sum, Product}
 use Rattle.wquery.specs.Tree.{Tree, Negated, Signed, Joined, Among, Trees, NoTrees, MoreTrees, Links, NoLinks, Further}
-use Rattle.wsame.proofs.Equal.{and_true}
-use Rattle.wscope.specs.Seeking.{found_links, found_trees}
-use Rattle.wscope.specs.Children.{standing}
+use Rattle.wnodes.proofs.Fronts.{and_true}
+use Rattle.wnodes.specs.Nodes.{found_links, found_trees}
+use Rattle.wnodes.specs.Children.{standing}
 use Rattle.wscope.specs.Types.{Titled}
 use Rattle.wnames.specs.Types.{all_trees, is_condition, is_ill_typed, is_integer, is_text}
 use Rattle.wnames.specs.Laws.{OperandsAsked, all_links, suits}

@@ -5,7 +5,7 @@ use Rattle.std.specs.Rc.{rc_str_bytes}
 use Rattle.wquery.specs.declared.expression.Call.{Call}
 use Rattle.wquery.specs.declared.expression.Expression.{Expression}
 use Rattle.wquery.specs.Tree.{trees, views, view, view_call, view_arguments, view_optional, view_optional_over, filter_of, reach_of}
-use Rattle.wsame.proofs.Views.{view_call_is}
+use Rattle.wnodes.proofs.Views.{view_call_is}
 use Rattle.wscope.specs.declared.function.Function.{Function}
 use Rattle.wscope.specs.Functions.{function_of}
 use Rattle.wscope.specs.Types.{Titled, type_of, agree}

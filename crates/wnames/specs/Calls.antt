@@ -9,7 +9,8 @@ use Rattle.wscope.specs.declared.function.Function.TheVariants as functions
 use Rattle.wscope.specs.Functions.{function_of, is_aggregate, takes}
 use Rattle.wscope.specs.Types.{Titled}
 use Rattle.wscope.specs.Scope.{some_anywhere}
-use Rattle.wscope.specs.Finding.{finds, count_trees}
+use Rattle.wnodes.specs.Nodes.{count_trees}
+use Rattle.wscope.specs.Finding.{finds}
 
 abbrev pub is_count : Function → Bool
 is_count functions.Count = true

@@ -11,7 +11,7 @@ use Rattle.wscope.specs.declared.function.Function.{Function}
 use Rattle.wscope.specs.declared.function.Function.TheVariants as functions
 use Rattle.wscope.specs.declared.signature.Takes.{Takes}
 use Rattle.wscope.specs.declared.signature.Takes.TheVariants.{Any, Truths, Integers, Alike, Arguments}
-use Rattle.wscope.specs.Children.{children_of}
+use Rattle.wnodes.specs.Children.{children_of}
 use Rattle.wscope.specs.Functions.{function_of}
 use Rattle.wscope.specs.Signature.{signature_of}
 use Rattle.wscope.specs.Types.{Titled, type_of, is_truth, fits_integer, fits_text, agree}

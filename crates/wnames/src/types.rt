@@ -6,7 +6,7 @@ ghost use Rattle.wquery.specs.Tree.{Tree, view, views, trees, keys, view_keys, v
 ghost use Rattle.wquery.specs.Tree.{view_arguments, view_optional, view_optional_over, view_window, filter_of, reach_of, own_window};
 ghost use Rattle.wquery.specs.QueryTree.{view_item, view_entry};
 ghost use Rattle.wscope.specs.declared.data_type.DataType.TheVariants.{Integer, Text};
-ghost use Rattle.wscope.specs.Children.{children_of, nodes_left};
+ghost use Rattle.wnodes.specs.Children.{children_of, nodes_left};
 ghost use Rattle.wscope.specs.Scoped.{scope_clauses, scope_columns};
 ghost use Rattle.wscope.specs.Sources.{all_titled};
 ghost use Rattle.wscope.specs.Types.{is_truth as is_truth_type, fits_integer as suits_integer, fits_text as suits_text, agree as do_agree};
@@ -19,9 +19,10 @@ ghost use Rattle.wnames.specs.Types.{is_call_typed as has_typed_call, has_fit_op
 ghost use Rattle.wnames.specs.Types.{is_ill_typed as is_wrong, is_no_condition as is_other, is_truth_item as has_truth};
 ghost use Rattle.wnames.specs.Types.{is_truth_key as is_key_of_truth, is_truth_entry as is_entry_of_truth, breaks_types};
 
+use wnodes::{Children, Node};
 use wquery::{Arguments, Call, Expression, Item, Key, Over, Window, WindowEntry};
 use wscope::{
-    Children, DataType, Function, Look, NodeTest, Scope, SourceColumn, Takes, any_anywhere,
+    DataType, Function, Look, NodeTest, Scope, SourceColumn, Takes, any_anywhere,
     found_if, function_of, signature_of, type_of,
 };
 
@@ -232,10 +233,7 @@ fn all_of(columns: &[SourceColumn], asked: DataType, nodes: Children) -> bool
 fn has_operands_of(columns: &[SourceColumn], asked: DataType, e: &Expression) -> bool
     ensures { result ≡ list_all (is_of_type (all_titled columns.now) asked) (children_of (view e.now)) }
 {
-    match Children::of(e) {
-        None => true,
-        Some(nodes) => all_of(columns, asked, nodes),
-    }
+    all_of(columns, asked, Node::of(e).children)
 }
 
 fn has_operands_alike(columns: &[SourceColumn], e: &Expression) -> bool

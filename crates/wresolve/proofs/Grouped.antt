@@ -6,7 +6,7 @@ use Rattle.std.specs.List.{list_any}
 use Rattle.wquery.specs.Tree.{Tree, Numeral, Field, Invoked, Everything, These, Columns}
 use Rattle.wquery.specs.Tree.{ItsGroup, ThatWindow, OwnWindow, KeyTree, own_window}
 use Rattle.wquery.specs.QueryTree.{ItemTree, AllColumns, Computed, EntryTree}
-use Rattle.wsame.specs.Sameness.{is_same}
+use Rattle.wnodes.specs.Sameness.{is_same}
 use Rattle.wscope.specs.Functions.{function_of}
 use Rattle.wscope.specs.declared.function.Function.{Function}
 use Rattle.wscope.specs.declared.look.Look.TheVariants.{Found, Below}
@@ -14,7 +14,7 @@ use Rattle.wscope.specs.Finding.{finds}
 use Rattle.wscope.specs.Scope.{is_output, some_entry, some_item, some_sort}
 use Rattle.wscope.specs.Seeking.{found_or, seeking, some_below, some_node}
 use Rattle.wscope.specs.Types.{Titled}
-use Rattle.wscope.proofs.Related.{Relates, related, related_reach}
+use Rattle.wnodes.proofs.Related.{Relates, related, related_reach}
 use Rattle.wnames.specs.Calls.{is_aggregate_of}
 use Rattle.wnames.specs.Groups.{has_some, is_group_call}
 use Rattle.wdistinct.specs.declared.distinct_calls.CallKind.TheVariants.{Grouped}

@@ -16,7 +16,7 @@ use Rattle.wquery.specs.Tree.{ItsGroup, ThatWindow, OwnWindow, Keys, NoKeys, Mor
 use Rattle.wquery.specs.GroupElements.{Element, all_columns}
 use Rattle.wquery.specs.QueryTree.{Clauses, QueryTree, Selected, SourceTree, FromTable, FromQuery}
 use Rattle.wvalues.specs.declared.key.SortKey.{SortKey}
-use Rattle.wsame.specs.Bounds.{end_of}
+use Rattle.wnodes.specs.Bounds.{end_of}
 use Rattle.wnames.specs.Groups.{has_some}
 use Rattle.wscope.specs.Types.{Titled}
 use Rattle.wscope.specs.Sources.{Shown, Placed, Spelled, ShownItem, written_out, origin_of}

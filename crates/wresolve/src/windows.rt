@@ -21,7 +21,7 @@ use wplan::{CallOver, Expr, ResolvedFrame, ResolvedKey, ResolvedWindow};
 use wquery::{
     Call, Expression, Frame, FrameBound, FrameExclusion, FrameMode, Key, NullOrder, Over,
 };
-use wsame::frame_end;
+use wnodes::frame_end;
 use wscope::{Earlier, FullEntry, FullWindow, WindowIndex};
 use wvalues::SortKey;
 

@@ -1,6 +1,5 @@
-pub mod Beside
+pub mod Looks
 pub mod Links
-pub mod Related
 mod TypeFacts
 mod StarColumns
 mod WrittenOut

@@ -14,8 +14,8 @@ use Rattle.wscope.specs.declared.function.Function.{Function}
 use Rattle.wscope.specs.Functions.{function_of}
 use Rattle.wscope.specs.Laws.{TypesGiven}
 use Rattle.wscope.specs.Types.{Titled, type_of, type_at, given_type, call_type}
-use Rattle.wsame.proofs.Equal.{view_of_listed}
-use Rattle.wsame.proofs.Views.{view_call_is}
+use Rattle.wnodes.proofs.Equal.{view_of_listed}
+use Rattle.wnodes.proofs.Views.{view_call_is}
 
 pub type_at_end : (cs : List Titled) (xs : List Expression) (n : ℕ) → length xs ≤ n → type_at cs n (trees (views xs)) ≡ Null
 type_at_end cs [] n h = refl

@@ -4,7 +4,7 @@ use Rattle.std.specs.List.{list_any}
 use Rattle.std.specs.Str.{bytes_eq}
 use Rattle.wquery.specs.Tree.{Tree, Field}
 use Rattle.wquery.specs.QueryTree.{ItemTree, AllColumns, Computed}
-use Rattle.wsame.specs.Sameness.{is_same}
+use Rattle.wnodes.specs.Sameness.{is_same}
 use Rattle.wscope.specs.Types.{Titled, place_named}
 use Rattle.wscope.specs.Sources.{Shown, Placed, Spelled, ShownItem, written_out}
 

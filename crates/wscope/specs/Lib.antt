@@ -14,5 +14,4 @@ pub mod Indexes
 pub mod Earlier
 pub mod Clauses
 pub mod Scoped
-pub mod Children
 pub mod Laws

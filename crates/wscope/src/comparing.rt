@@ -10,7 +10,7 @@ use crate::names::place_named;
 use crate::output::Output;
 use crate::source::SourceColumn;
 use wquery::Expression;
-use wsame::same;
+use wnodes::same;
 
 #[tactic(auto, unfolding(wquery::specs::Tree::view))]
 fn is_column_at(columns: &[SourceColumn], place: usize, expression: &Expression) -> bool

@@ -1,19 +1,18 @@
 //! What the words of a query stand for: its columns, functions, types and windows, and where its expressions stand.
 //!
 //! - Gives the columns of a source and of an answer, functions by their names, what each form of expression takes and
-//!   gives, the type of an expression, windows with what they copy, the nodes right below a node, walks that look for a node
-//!   of an expression or of a whole query, and the scope of a SELECT, which finds its names and windows by an index.
+//!   gives, the type of an expression, windows with what they copy, walks that look for a node of an expression or of a whole
+//!   query, and the scope of a SELECT, which finds its names and windows by an index.
 //! - Promises: each answer is that of its definition; a walk goes as deep as the nesting alone and takes no memory.
 //! - Asks nothing. A name that no column has stands for none: its type is that of NULL.
 //! - Leaves to `wrules` what a query may not say, and to `wresolve` the form that execution reads.
 //!
 //! Read `specs/Functions.antt`, `specs/Signature.antt`, `specs/Types.antt`, `specs/Sources.antt`, then
-//! `specs/Seeking.antt`, `specs/Children.antt`, `specs/Scope.antt`, `specs/Windows.antt`, `specs/Scoped.antt` and
+//! `specs/Seeking.antt`, `specs/Scope.antt`, `specs/Windows.antt`, `specs/Scoped.antt` and
 //! `specs/Laws.antt`.
 #![tactic(auto)]
 
 mod called;
-mod children;
 mod comparing;
 mod data_type;
 mod earlier;
@@ -37,7 +36,6 @@ mod source;
 mod typing;
 mod window_index;
 
-pub use children::Children;
 pub use data_type::DataType;
 pub use earlier::Earlier;
 pub use finding::found_if;

@@ -3,11 +3,11 @@
 ghost use Rattle.std.specs.Prelude.{◌≡◌};
 ghost use Rattle.wquery.specs.Tree.{Tree, view, view_window, own_window};
 ghost use Rattle.wscope.specs.Seeking.{seeking, some_node, some_below, some_reach};
-ghost use Rattle.wscope.specs.Children.{found_all, nodes_left};
+ghost use Rattle.wnodes.specs.Children.{found_all, nodes_left};
 ghost use Rattle.wscope.specs.declared.look.Look.{Look};
 
-use crate::children::Children;
 use crate::look::Look;
+use wnodes::{Children, Node};
 use wquery::{Expression, Window};
 
 /// A test of the nodes of expressions.
@@ -37,10 +37,7 @@ pub fn any_node<T: NodeTest>(test: &T, e: &Expression) -> bool
 pub fn any_below<T: NodeTest>(test: &T, e: &Expression) -> bool
     ensures { result ≡ some_below (T.sees test.now) (view e.now) }
 {
-    match Children::of(e) {
-        None => false,
-        Some(nodes) => any_beside(test, nodes),
-    }
+    any_beside(test, Node::of(e).children)
 }
 
 /// Whether some node of expressions that stand side by side is found.

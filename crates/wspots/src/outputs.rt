@@ -6,7 +6,7 @@ ghost use Rattle.wspots.specs.Items.{has_item, two_called, count_behind};
 use std::alloc::{AllocError, Global};
 use std::collections::BTreeMap;
 use wquery::{Expression, Item};
-use wsame::same;
+use wnodes::same;
 use wscope::{SourceColumn, output_name, place_named};
 
 /// An item, as ORDER BY can name it.

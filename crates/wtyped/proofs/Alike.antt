@@ -6,13 +6,13 @@ use Rattle.std.specs.List.{list_all, list_any}
 use Rattle.std.proofs.lemmas.Bool.{and_parts, or_left, or_right}
 use Rattle.std.proofs.lemmas.List.Folds.{list_all-append, list_any-append}
 use Rattle.wquery.specs.Tree.{Tree, Invoked, Trees, NoTrees, MoreTrees, Given, These}
-use Rattle.wsame.specs.Sameness.{is_same}
+use Rattle.wnodes.specs.Sameness.{is_same}
 use Rattle.wscope.specs.declared.data_type.DataType.{DataType}
 use Rattle.wscope.specs.Functions.{function_of}
 use Rattle.wscope.specs.Types.{Titled, call_type, given_type, type_at, type_of}
 use Rattle.wdistinct.specs.Calls.{with_new}
 use Rattle.wdistinct.specs.Places.{place_of_same}
-use Rattle.wdistinct.specs.Same.{plain, plain_given, plain_trees, same_equiv, to}
+use Rattle.wnodes.specs.Plain.{plain, plain_given, plain_trees, same_equiv, to}
 use Rattle.wtyped.specs.Typing as row
 
 -- what reads nothing that equality looks through is one of two equal expressions

@@ -12,13 +12,13 @@ use Rattle.wquery.specs.QueryTree.{Clauses, QueryTree, Selected, SourceTree, Fro
 use Rattle.wquery.specs.QueryTree.{ItemTree, AllColumns, Computed, EntryTree}
 use Rattle.wquery.specs.Tree.{Tree, Invoked, Trees, NoTrees, MoreTrees, Reach, ItsGroup, ThatWindow}
 use Rattle.wquery.specs.Tree.{OwnWindow, Keys, NoKeys, MoreKeys, KeyTree, keys, trees}
-use Rattle.wscope.specs.Finding.{count_keys, count_trees, finds}
+use Rattle.wnodes.specs.Nodes.{count_keys, count_trees, found_below}
+use Rattle.wscope.specs.Finding.{finds}
 use Rattle.wscope.specs.Scope.{some_anywhere}
-use Rattle.wscope.specs.Seeking.{found_below}
 use Rattle.wscope.specs.Sources.{origin_of, written_out}
 use Rattle.wscope.specs.Types.{Titled}
 use Rattle.wscope.specs.Windows.{NamedWindow, Expanded, expand, expand_all, expand_tree}
-use Rattle.wscope.proofs.Related.{Relates, related}
+use Rattle.wnodes.proofs.Related.{Relates, related}
 use Rattle.wwindows.specs.Limits.{breaks_limits, count_over, count_windows, counting, has_long_list}
 use Rattle.wwindows.specs.Limits.{is_long_entry, over_items, over_order, with_own}
 use Rattle.wwindows.specs.Order.{count_items}

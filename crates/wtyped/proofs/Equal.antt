@@ -9,18 +9,18 @@ use Rattle.wquery.specs.declared.frame.FrameExclusion.TheVariants as exclusions
 use Rattle.wquery.specs.Tree.{Tree, Numeral, Field, Invoked, Negated, Signed, Joined, Compared, NullTest, Within, Among}
 use Rattle.wquery.specs.Tree.{Trees, NoTrees, MoreTrees, Links, NoLinks, Further, Given, Everything, These, Columns, Filter}
 use Rattle.wquery.specs.Tree.{Unfiltered, FilteredBy, Reach, ItsGroup, OwnWindow, Keys, NoKeys, MoreKeys, same_kind}
-use Rattle.wsame.specs.Bounds.{end_of}
-use Rattle.wsame.specs.Sameness.{are_same, are_same_given, are_same_keys, are_same_links, comparison_number}
-use Rattle.wsame.specs.Sameness.{exclusion_number, is_same, is_same_filter, is_same_reach, mode_number, nulls_number}
-use Rattle.wsame.specs.Sameness.{operator_number, same_bool, same_bound, same_copied, same_frame}
+use Rattle.wnodes.specs.Bounds.{end_of}
+use Rattle.wnodes.specs.Sameness.{are_same, are_same_given, are_same_keys, are_same_links, comparison_number}
+use Rattle.wnodes.specs.Sameness.{exclusion_number, is_same, is_same_filter, is_same_reach, mode_number, nulls_number}
+use Rattle.wnodes.specs.Sameness.{operator_number, same_bool, same_bound, same_copied, same_frame}
 use Rattle.wscope.specs.declared.function.Function.{Function}
 use Rattle.wscope.specs.declared.function.Function.TheVariants as functions
 use Rattle.wscope.specs.Functions.{function_of}
 use Rattle.wscope.specs.Types.{Titled}
 use Rattle.wscope.specs.Windows.{NamedWindow, keys_or, or_none, expand, window_named}
 use Rattle.wdistinct.specs.Places.{place_of_same}
-use Rattle.wdistinct.specs.Same.{plain, plain_exclusion, plain_filter, plain_frame, plain_given, plain_keys}
-use Rattle.wdistinct.specs.Same.{plain_links, plain_number, plain_reach, plain_trees, same_equiv}
+use Rattle.wnodes.specs.Plain.{plain, plain_exclusion, plain_filter, plain_frame, plain_given, plain_keys}
+use Rattle.wnodes.specs.Plain.{plain_links, plain_number, plain_reach, plain_trees, same_equiv}
 use Rattle.wplan.specs.Formula as row
 use Rattle.wplan.specs.Formula.{Formula}
 use Rattle.wplan.specs.Plans as plans

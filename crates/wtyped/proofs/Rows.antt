@@ -22,7 +22,7 @@ use Rattle.wdistinct.specs.declared.distinct_calls.CallKind.{CallKind}
 use Rattle.wdistinct.specs.declared.distinct_calls.CallKind.TheVariants.{Grouped, Windowed}
 use Rattle.wdistinct.specs.Calls.{group_calls, is_call_of, nodes_below, window_calls}
 use Rattle.wdistinct.specs.Places.{place_of_same}
-use Rattle.wsame.specs.Sameness.{is_same}
+use Rattle.wnodes.specs.Sameness.{is_same}
 use Rattle.wbinding.specs.Resolving.{Layout, cell_in, source_row, width}
 use Rattle.wresolve.specs.Selecting as made
 use Rattle.wtyped.specs.Laws.{types_of}

@@ -17,12 +17,13 @@ use Rattle.wquery.specs.Tree.{ThatWindow, OwnWindow, Keys, NoKeys, MoreKeys, Key
 use Rattle.wscope.specs.Called.{first_called, is_column_at, is_unlike, same_shown}
 use Rattle.wscope.specs.declared.function.Function.{Function}
 use Rattle.wscope.specs.declared.function.Function.TheVariants as functions
-use Rattle.wscope.specs.Finding.{count_trees, finds}
+use Rattle.wnodes.specs.Nodes.{count_trees}
+use Rattle.wscope.specs.Finding.{finds}
 use Rattle.wscope.specs.Functions.{function_of, is_aggregate}
 use Rattle.wscope.specs.Scope.{has_name, is_output, some_anywhere, some_entry, some_item, some_option, some_sort}
 use Rattle.wscope.specs.Seeking.{seeking, some_below, some_node, some_reach}
 use Rattle.wscope.proofs.Grouped.{name_sym}
-use Rattle.wscope.proofs.Related.{Relates, related, related_reach}
+use Rattle.wnodes.proofs.Related.{Relates, related, related_reach}
 use Rattle.wscope.specs.Sources.{Shown, Placed, Spelled, ShownItem, columns_from, origin_of, written_out}
 use Rattle.wscope.specs.Types.{Origin, Titled, place_named}
 use Rattle.wscope.specs.Windows.{NamedWindow, Expanded, or_none, expand_all, expand_tree, window_named}

@@ -38,7 +38,7 @@ use Rattle.wtyped.specs.Shapes.{are_fields, are_links, are_of_kind, is_field, is
 use Rattle.wtyped.specs.Shapes.{is_misshapen, is_shaped, is_shaped_source}
 use Rattle.wtyped.specs.Spelled.{SpelledIsShaped}
 use Rattle.wtyped.proofs.Walks.{open_find}
-use Rattle.wdistinct.specs.Same.{kinds}
+use Rattle.wnodes.specs.Plain.{kinds}
 
 -- tokens whose numbers are short enough
 abbrev IsShort : TokenMeaning → Type 0

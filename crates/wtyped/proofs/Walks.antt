@@ -13,7 +13,7 @@ use Rattle.wscope.specs.Finding.{finds}
 use Rattle.wscope.specs.Scope.{is_output, some_anywhere, some_entry, some_item, some_option, some_shown, some_sort}
 use Rattle.wscope.specs.Seeking.{found_or, seeking, some_below, some_node, some_reach}
 use Rattle.wscope.specs.Types.{Titled}
-use Rattle.wscope.proofs.Related.{Relates, related, related_below, related_reach}
+use Rattle.wnodes.proofs.Related.{Relates, related, related_below, related_reach}
 use Rattle.wtyped.proofs.Tests.{are_false}
 use Rattle.wdistinct.specs.Calls.{node_or, nodes_below, nodes_in, nodes_in_reach, picking}
 

@@ -12,7 +12,7 @@ use Rattle.wquery.specs.declared.frame.FrameBound.{FrameBound}
 use Rattle.wquery.specs.declared.frame.FrameBound.TheVariants.{UnboundedPreceding, Preceding, Following, UnboundedFollowing}
 use Rattle.wquery.specs.Tree.{Tree, Reach, ItsGroup, ThatWindow, OwnWindow, Keys, NoKeys, MoreKeys, keys, Trees, NoTrees, MoreTrees, trees}
 use Rattle.wquery.specs.QueryTree.{EntryTree}
-use Rattle.wsame.specs.Bounds.{end_of, place_of_bound}
+use Rattle.wnodes.specs.Bounds.{end_of, place_of_bound}
 use Rattle.wscope.specs.declared.data_type.DataType.{DataType}
 use Rattle.wscope.specs.declared.data_type.DataType.TheVariants.{Text, Truth}
 use Rattle.wscope.specs.Scope.{some_entry}

@@ -2,7 +2,7 @@
 -- one window.
 use Rattle.std.specs.Prelude.{◌≡◌, ℕ, true, List}
 use Rattle.wquery.specs.Tree.{Tree}
-use Rattle.wsame.specs.Sameness.{is_same}
+use Rattle.wnodes.specs.Sameness.{is_same}
 use Rattle.wscope.specs.Windows.{NamedWindow}
 use Rattle.wbinding.specs.Functions.{call_function}
 use Rattle.wbinding.specs.Groups.{group_call_made}

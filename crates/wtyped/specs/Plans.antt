@@ -17,7 +17,7 @@ use Rattle.wplan.specs.Formula.{Formula}
 use Rattle.wplan.specs.Plans.{AggregatePlan, GroupCallPlan, GroupAggregate, GroupingOf, GroupingPlan, KeyPlan}
 use Rattle.wplan.specs.Plans.{WindowPlan, FunctionPlan, RowNumber, Rank, DenseRank, Tile, Lag, Lead, FirstValue}
 use Rattle.wplan.specs.Plans.{LastValue, NthValue, Aggregated, CallPlan, OutputPlan, SelectPlan}
-use Rattle.wsame.specs.Bounds.{place_of_bound}
+use Rattle.wnodes.specs.Bounds.{place_of_bound}
 use Rattle.wscope.specs.Types.{is_truth}
 use Rattle.wtyped.specs.Typing.{beside, constant_type, formula_type, has, is_number, type_at, valued, where_holds}
 

@@ -14,9 +14,8 @@ use Rattle.wquery.specs.QueryTree.{ItemTree, AllColumns, Computed, EntryTree}
 use Rattle.wsegment.specs.Declaration.{Declaration}
 use Rattle.wscope.specs.declared.function.Function.{Function}
 use Rattle.wscope.specs.declared.function.Function.TheVariants as functions
-use Rattle.wscope.specs.Finding.{count_trees}
+use Rattle.wnodes.specs.Nodes.{count_trees, Findings, found, found_reach}
 use Rattle.wscope.specs.Functions.{function_of}
-use Rattle.wscope.specs.Seeking.{Findings, found, found_reach}
 use Rattle.wscope.specs.Sources.{ShownItem, origin_of, written_out}
 use Rattle.wscope.specs.Types.{Origin, Titled, place_named}
 use Rattle.wscope.specs.Windows.{NamedWindow, Expanded, expand_all, expand_tree, window_named}

@@ -4,7 +4,7 @@ use Rattle.std.proofs.Math.Dec.{eqb-suc-zero}
 use Rattle.wquery.specs.declared.expression.Expression.{Expression}
 use Rattle.wquery.specs.declared.expression.Key.{Key}
 use Rattle.wquery.specs.Tree.{trees, views, keys, view_keys}
-use Rattle.wscope.specs.Finding.{count_trees, count_keys}
+use Rattle.wnodes.specs.Nodes.{count_trees, count_keys}
 use Rattle.wscope.specs.Types.{Titled}
 use Rattle.wwindows.specs.Windows.{has_keys, has_trees, has_range_key}
 

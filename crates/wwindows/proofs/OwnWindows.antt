@@ -6,10 +6,10 @@ use Rattle.wquery.specs.declared.query.Item.{Item}
 use Rattle.wquery.specs.QueryTree.{view_item}
 use Rattle.wquery.specs.declared.expression.Call.{Call}
 use Rattle.wquery.specs.Tree.{Tree, Invoked, view_key, view_call, view_optional_over, reach_of}
-use Rattle.wsame.proofs.Views.{view_call_is}
-use Rattle.wscope.specs.Seeking.{found_below}
-use Rattle.wscope.specs.Children.{children_of, found_all}
-use Rattle.wscope.proofs.Beside.{IsJoined, below_all}
+use Rattle.wnodes.proofs.Views.{view_call_is}
+use Rattle.wnodes.specs.Nodes.{found_below}
+use Rattle.wnodes.specs.Children.{children_of, found_all}
+use Rattle.wnodes.proofs.Beside.{IsJoined, below_all}
 use Rattle.wwindows.specs.Limits.{count_over, counting, has_own, with_own, over_items, over_order, counted}
 
 counting_joined : IsJoined counting

@@ -5,8 +5,8 @@ use Rattle.wquery.specs.Tree.{Tree, Invoked, Reach, ItsGroup, ThatWindow, OwnWin
 use Rattle.wquery.specs.QueryTree.{Clauses, ItemTree, AllColumns, Computed, EntryTree}
 use Rattle.wscope.specs.Types.{Titled}
 use Rattle.wscope.specs.Scope.{some_anywhere}
-use Rattle.wscope.specs.Finding.{finds, count_trees, count_keys}
-use Rattle.wscope.specs.Seeking.{Findings, found}
+use Rattle.wnodes.specs.Nodes.{count_trees, count_keys, Findings, found}
+use Rattle.wscope.specs.Finding.{finds}
 use Rattle.wgroupby.specs.Rules.{breaks_lists}
 use Rattle.wwindows.specs.Order.{count_items}
 use Rattle.wwindows.specs.Windows.{reach_is}

@@ -11,7 +11,7 @@ use Rattle.wquery.specs.declared.frame.FrameBound.TheVariants.{Preceding, Follow
 use Rattle.wquery.specs.Tree.{Tree, Invoked, Keys, NoKeys, MoreKeys, keys, Trees, NoTrees, MoreTrees}
 use Rattle.wquery.specs.Tree.{trees, Reach, ItsGroup, ThatWindow, OwnWindow, WindowTree}
 use Rattle.wquery.specs.QueryTree.{Clauses, EntryTree}
-use Rattle.wsame.specs.Bounds.{place_of_bound, end_of}
+use Rattle.wnodes.specs.Bounds.{place_of_bound, end_of}
 use Rattle.wscope.specs.declared.data_type.DataType.{DataType}
 use Rattle.wscope.specs.declared.data_type.DataType.TheVariants.{Text}
 use Rattle.wscope.specs.Types.{Titled, type_of}

@@ -3,12 +3,12 @@
 ghost use Rattle.std.specs.Prelude.{◌≡◌, ◌+◌, map, [], ◌∷◌};
 ghost use Rattle.wquery.specs.Tree.{view, view_call, view_key, view_optional_over, reach_of};
 ghost use Rattle.wquery.specs.QueryTree.{view_item};
-ghost use Rattle.wscope.specs.Seeking.{found_below};
-ghost use Rattle.wscope.specs.Children.{found_all, nodes_left};
+ghost use Rattle.wnodes.specs.Nodes.{found_below};
+ghost use Rattle.wnodes.specs.Children.{found_all, nodes_left};
 ghost use Rattle.wwindows.specs.Limits.{count_over as over_in, has_own, with_own, counting, over_items, over_order, counted};
 
+use wnodes::{Children, Node};
 use wquery::{Call, Expression, Item, Key, Over};
-use wscope::Children;
 
 /// Where counts stop: one more than the most windows of a query.
 const STOP: u32 = 33;
@@ -38,10 +38,7 @@ fn count_over(e: &Expression) -> u32
 fn count_below(e: &Expression) -> u32
     ensures { result ≡ counted (found_below counting (view e.now)) }
 {
-    match Children::of(e) {
-        None => 0,
-        Some(nodes) => count_beside(nodes),
-    }
+    count_beside(Node::of(e).children)
 }
 
 #[cycle(counting)]

@@ -5,7 +5,7 @@ ghost use Rattle.std.specs.List.{list_any};
 ghost use Rattle.wquery.specs.Tree.{trees, views, keys, view_keys, view_window, own_window};
 ghost use Rattle.wquery.specs.QueryTree.{view_entry};
 ghost use Rattle.wscope.specs.Scoped.{scope_clauses, scope_columns};
-ghost use Rattle.wscope.specs.Finding.{count_trees, count_keys};
+ghost use Rattle.wnodes.specs.Nodes.{count_trees, count_keys};
 ghost use Rattle.wgroupby.specs.Rules.{breaks_lists};
 ghost use Rattle.wwindows.specs.Order.{count_items as number_of_items};
 ghost use Rattle.wwindows.specs.Limits.{count_windows as number_of_windows, has_long_list as is_reach_long};

@@ -5,7 +5,7 @@ ghost use Rattle.std.specs.List.{list_any};
 ghost use Rattle.std.specs.Option.{option_copied};
 ghost use Rattle.wquery.specs.Tree.{Reach, keys, view_key, view_keys, trees, views, view_window, view_call, view_optional_over, reach_of};
 ghost use Rattle.wquery.specs.QueryTree.{view_entry};
-ghost use Rattle.wsame.specs.Bounds.{end_of};
+ghost use Rattle.wnodes.specs.Bounds.{end_of};
 ghost use Rattle.wscope.specs.Earlier.{seen, windows_in};
 ghost use Rattle.wscope.specs.Finding.{finds};
 ghost use Rattle.wscope.specs.Indexes.{is_place, place_of, repeats};
@@ -24,7 +24,7 @@ ghost use Rattle.wwindows.specs.Windows.{is_groups, is_range, is_text_type as is
 ghost use Rattle.wwindows.specs.Windows.{lacks_range_key, breaks_bounds, breaks_groups, breaks_ranges};
 
 use wquery::{Expression, Frame, FrameBound, FrameMode, Key, Over, Window, WindowEntry};
-use wsame::{bound_place, frame_end};
+use wnodes::{bound_place, frame_end};
 use wscope::{
     DataType, Earlier, FullEntry, FullWindow, Look, NodeTest, Scope, SourceColumn, WindowIndex,
     any_anywhere, found_if, type_of,

@@ -1,7 +1,7 @@
 use Rattle.std.proofs.Common.{◌≡◌, ◌≤◌, ◌+◌, ◌*◌, ◌++◌, length}
 use Rattle.wquery.specs.Tree.{view}
-use Rattle.wscope.specs.Seeking.{found, found_below}
-use Rattle.wscope.specs.Children.{found_all, nodes_left, sizing}
+use Rattle.wnodes.specs.Nodes.{found, found_below}
+use Rattle.wnodes.specs.Children.{found_all, nodes_left, sizing}
 use Rattle.wdistinct.specs.Calls.{call_trees, is_call_of, picking}
 use Rattle.wdistinct.proofs.distinct_calls.+collecting.Given as goal
 

@@ -1,7 +1,7 @@
 use Rattle.std.proofs.Common.{ap, sym, ◌∙◌}
 use Rattle.wquery.specs.Tree.{own_window, view_window}
-use Rattle.wscope.specs.Children.{found_all, nodes_left}
-use Rattle.wscope.proofs.Beside.{reach_all}
+use Rattle.wnodes.specs.Children.{found_all, nodes_left}
+use Rattle.wnodes.proofs.Beside.{reach_all}
 use Rattle.wdistinct.specs.Calls.{call_trees, is_call_of, nodes_in_reach, picking}
 use Rattle.wdistinct.proofs.Collected.{behind, picking_joined}
 use Rattle.wdistinct.proofs.distinct_calls.collect_window.Goals as goal

@@ -1,6 +1,6 @@
 use Rattle.std.proofs.Common.{◌≡◌, length}
 use Rattle.std.specs.List.{list_all}
-use Rattle.wscope.specs.Children.{nodes_left}
+use Rattle.wnodes.specs.Children.{nodes_left}
 use Rattle.wscope.specs.Sources.{all_titled}
 use Rattle.wnames.specs.Types.{is_of}
 use Rattle.wnames.proofs.types.all_of.Given as goal

@@ -1,5 +1,5 @@
 use Rattle.std.proofs.Common.{ap, sym, ◌∙◌}
-use Rattle.wsame.proofs.Views.{view_call_is}
+use Rattle.wnodes.proofs.Views.{view_call_is}
 use Rattle.wresolve.specs.Selecting.{has_own_window}
 use Rattle.wresolve.proofs.windows.has_own_window.Goals as goal
 

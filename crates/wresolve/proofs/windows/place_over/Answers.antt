@@ -1,6 +1,6 @@
 use Rattle.std.proofs.Common.{ap, sym, ◌∙◌}
 use Rattle.wscope.specs.Earlier.{windows_in}
-use Rattle.wsame.proofs.Views.{view_call_is}
+use Rattle.wnodes.proofs.Views.{view_call_is}
 use Rattle.wresolve.specs.Selecting.{place_over}
 use Rattle.wresolve.proofs.windows.place_over.Goals as goal
 

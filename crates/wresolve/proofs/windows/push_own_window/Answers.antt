@@ -1,4 +1,4 @@
-use Rattle.wsame.proofs.Views.{view_call_is}
+use Rattle.wnodes.proofs.Views.{view_call_is}
 use Rattle.wresolve.proofs.windows.push_own_window.Goals as goal
 
 pub returns : goal.returns

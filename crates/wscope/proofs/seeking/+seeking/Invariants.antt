@@ -1,7 +1,8 @@
 use Rattle.std.proofs.Common.{◌≡◌, ◌≤◌, ◌+◌, ◌*◌, length}
 use Rattle.wquery.specs.Tree.{view}
-use Rattle.wscope.specs.Seeking.{found, found_below, seeking}
-use Rattle.wscope.specs.Children.{found_all, nodes_left, sizing}
+use Rattle.wnodes.specs.Nodes.{found, found_below}
+use Rattle.wscope.specs.Seeking.{seeking}
+use Rattle.wnodes.specs.Children.{found_all, nodes_left, sizing}
 use Rattle.wscope.proofs.seeking.+seeking.Given as goal
 
 abbrev pub decreases-any_node : goal.decreases-any_node

@@ -1,8 +1,9 @@
 use Rattle.std.proofs.Common.{ap, sym, ◌∙◌}
 use Rattle.wquery.specs.Tree.{own_window, view_window}
 use Rattle.wscope.specs.Seeking.{seeking}
-use Rattle.wscope.specs.Children.{found_all}
-use Rattle.wscope.proofs.Beside.{reach_all, looks_joined}
+use Rattle.wnodes.specs.Children.{found_all}
+use Rattle.wnodes.proofs.Beside.{reach_all}
+use Rattle.wscope.proofs.Looks.{looks_joined}
 use Rattle.wscope.proofs.seeking.any_in_window.Goals as goal
 
 pub returns : goal.returns

@@ -1,0 +1,11 @@
+pub mod Views
+pub mod Related
+pub mod Beside
+pub mod Bare
+pub mod Written
+pub mod Fronts
+pub mod Split
+pub mod Equal
+pub mod HeadFacts
+pub mod Sketched
+pub mod SketchLaws

@@ -1,0 +1,9 @@
+pub mod Nodes
+pub mod Children
+pub mod Bounds
+pub mod Sameness
+pub mod Heads
+pub mod Hashed
+pub mod Plain
+pub mod Alike
+pub mod Sketch

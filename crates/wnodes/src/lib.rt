@@ -1,0 +1,31 @@
+//! The nodes of an expression: what each says itself, those right below it, and when two expressions are one.
+//!
+//! - Gives the nodes of expressions, the comparison of expressions and of calls, what a node is hashed by, and the bounds of a
+//!   frame as they are compared.
+//! - Promises: a node is told by its head and the nodes below it, each once, in the order of the text. Two expressions are
+//!   answered to be one just where they are by `is_same`, which looks through spellings that mean one thing: ASC and nothing,
+//!   EXCLUDE NO OTHERS and nothing, a frame's end left out and CURRENT ROW, a column with its qualifier and without.
+//! - Asks nothing. Takes no memory. Comparing goes as deep as the nesting alone, and takes time in proportion to the smaller of
+//!   the two.
+//! - Leaves to `wscope` and `wrules` what the names mean: a name that is used has to be that of one column.
+//!
+//! Read `specs/Nodes.antt`, `specs/Children.antt` and `specs/Heads.antt`, then `specs/Bounds.antt` and `specs/Sameness.antt`;
+//! `specs/Hashed.antt` says what a head is hashed by.
+#![tactic(auto)]
+
+mod bounds;
+mod children;
+mod hashing;
+mod head;
+mod marks;
+mod node;
+mod numbers;
+mod sameness;
+
+pub use bounds::{bound_place, frame_end};
+pub use children::Children;
+pub use head::{GivenHead, Head, OverHead};
+pub use marks::{FrameMark, Operators, OrderMarks};
+pub use node::Node;
+pub use sameness::{same, same_call};
+pub use hashing::sketch;
