@@ -9,8 +9,7 @@
 //! - Leaves to `wnodes` when two calls are equal, to `wscope` which functions are aggregates and which nodes stand below one, to
 //!   `wbinding` what calls stand for.
 //!
-//! Read `specs/Calls.antt`, `specs/Places.antt`; `specs/Sketch.antt` says what a call is hashed by: what each of its nodes says
-//! beside those below it.
+//! Read `specs/Calls.antt`, then `specs/Places.antt`.
 #![tactic(auto)]
 
 mod call_key;
