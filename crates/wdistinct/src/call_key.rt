@@ -10,8 +10,8 @@ ghost use Rattle.wnodes.specs.Plain.{same_equiv};
 ghost use Rattle.wnodes.proofs.SketchLaws.{same_sketch};
 
 use std::hash::{Hash, Hasher};
-use wquery::Call;
 use wnodes::{same_call, sketch};
+use wquery::Call;
 
 /// A call, which is equal to the calls that say the same.
 #[derive(Clone, Copy, Drop)]

@@ -22,8 +22,8 @@ ghost use Rattle.wnames.specs.Types.{is_truth_key as is_key_of_truth, is_truth_e
 use wnodes::{Children, Node};
 use wquery::{Arguments, Call, Expression, Item, Key, Over, Window, WindowEntry};
 use wscope::{
-    DataType, Function, Look, NodeTest, Scope, SourceColumn, Takes, any_anywhere,
-    found_if, function_of, signature_of, type_of,
+    DataType, Function, Look, NodeTest, Scope, SourceColumn, Takes, any_anywhere, found_if,
+    function_of, signature_of, type_of,
 };
 
 fn fits_integer(data_type: DataType) -> bool

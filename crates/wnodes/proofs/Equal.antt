@@ -37,4 +37,3 @@ pub ends : {A : Type 0} (same : List A → List A → Bool) → same [] [] ≡ t
     → leb (length ys) p ≡ same (drop i xs) (drop i ys)
 ends same none more xs ys i p h e = ended same none more (drop i xs) (drop i ys) (length ys) p
     (simp length-drop (omega arith)) (simp length-drop (rw e refl))
-

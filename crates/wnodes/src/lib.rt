@@ -24,8 +24,8 @@ mod sameness;
 
 pub use bounds::{bound_place, frame_end};
 pub use children::Children;
+pub use hashing::sketch;
 pub use head::{GivenHead, Head, OverHead};
 pub use marks::{FrameMark, Operators, OrderMarks};
 pub use node::Node;
 pub use sameness::{same, same_call};
-pub use hashing::sketch;

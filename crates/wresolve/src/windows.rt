@@ -17,11 +17,11 @@ ghost use Rattle.wresolve.specs.Selecting.{has_own_window as is_with_window, cal
 
 use std::alloc::{AllocError, Global};
 use wbinding::{RowLayout, build, build_function, build_listed};
+use wnodes::frame_end;
 use wplan::{CallOver, Expr, ResolvedFrame, ResolvedKey, ResolvedWindow};
 use wquery::{
     Call, Expression, Frame, FrameBound, FrameExclusion, FrameMode, Key, NullOrder, Over,
 };
-use wnodes::frame_end;
 use wscope::{Earlier, FullEntry, FullWindow, WindowIndex};
 use wvalues::SortKey;
 

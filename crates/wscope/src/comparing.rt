@@ -9,8 +9,8 @@ ghost use Rattle.wscope.specs.Outputs.{shown};
 use crate::names::place_named;
 use crate::output::Output;
 use crate::source::SourceColumn;
-use wquery::Expression;
 use wnodes::same;
+use wquery::Expression;
 
 #[tactic(auto, unfolding(wquery::specs::Tree::view))]
 fn is_column_at(columns: &[SourceColumn], place: usize, expression: &Expression) -> bool

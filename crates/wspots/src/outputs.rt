@@ -5,8 +5,8 @@ ghost use Rattle.wspots.specs.Items.{has_item, two_called, count_behind};
 
 use std::alloc::{AllocError, Global};
 use std::collections::BTreeMap;
-use wquery::{Expression, Item};
 use wnodes::same;
+use wquery::{Expression, Item};
 use wscope::{SourceColumn, output_name, place_named};
 
 /// An item, as ORDER BY can name it.

@@ -23,8 +23,8 @@ ghost use Rattle.wwindows.specs.Windows.{is_offset as is_offset_bound, has_bad_b
 ghost use Rattle.wwindows.specs.Windows.{is_groups, is_range, is_text_type as is_type_of_texts, has_range_key as is_range_key};
 ghost use Rattle.wwindows.specs.Windows.{lacks_range_key, breaks_bounds, breaks_groups, breaks_ranges};
 
-use wquery::{Expression, Frame, FrameBound, FrameMode, Key, Over, Window, WindowEntry};
 use wnodes::{bound_place, frame_end};
+use wquery::{Expression, Frame, FrameBound, FrameMode, Key, Over, Window, WindowEntry};
 use wscope::{
     DataType, Earlier, FullEntry, FullWindow, Look, NodeTest, Scope, SourceColumn, WindowIndex,
     any_anywhere, found_if, type_of,
