@@ -1,6 +1,6 @@
 -- Groups that are met where their keys are looked for.
 use Rattle.std.proofs.Common.{◌≡◌, ◌≢◌, ℕ, zero, suc, ◌+◌, ◌*◌, ◌-◌, map, ◌==◌, ◌<◌, ◌≤◌, ◌⊎◌, inl, inr}
-use Rattle.std.proofs.Common.{◌&&◌, ◌||◌, Bool, true, false, eqb, List, [], ◌∷◌, ◌++◌, length, take, drop}
+use Rattle.std.proofs.Common.{◌&&◌, ◌||◌, Bool, true, false, eqb, List, [], ◌∷◌, ◌++◌, length, length-append, take, drop}
 use Rattle.std.proofs.Common.{set, get_or, nat_lt, refl, sym, ap, subst, ◌∙◌, arith, true≢false}
 use Rattle.std.specs.Bool.{one_answer}
 use Rattle.std.specs.Cmp.{first_so, second_so}
@@ -8,7 +8,7 @@ use Rattle.std.specs.Cmp.Lexicographic.{pointwise, pointwise_decides}
 use Rattle.std.specs.Prelude.{◌^◌, IfOk, None, Some, Result, Ok, Err, cond, is_some, min, nat_le, if◌then◌else◌}
 use Rattle.std.specs.Int.Bits.{bit_and}
 use Rattle.std.specs.List.{flat_map, list_any, position, position_or_len}
-use Rattle.std.proofs.Math.Nat.{mul-le-mul_right}
+use Rattle.std.proofs.Math.Nat.{min-le_left, mul-le-mul_right}
 use Rattle.std.proofs.Math.Seq.{get_or-append_seam, take-set-lt}
 use Rattle.std.proofs.lemmas.Bool.{leb-true, ltb-true, lt-ltb, and_from}
 use Rattle.std.proofs.lemmas.Bool.Decides.{eqb_tells}
@@ -285,6 +285,7 @@ pub record IsPut (keyed : GroupingRows) (row : ℕ) (table put : GroupTable) : T
   pub keys : put.keys.items ≡ table.keys.items
   pub long : length put.slots.items ≡ length table.slots.items
   pub met : AreMet keyed (table.firsts.items ++ row ∷ []) put.slots.items put.apart.items
+  pub more : length put.apart.items ≤ suc (length table.apart.items)
 
 -- a group more stands apart where all of its slots are taken
 module _ (table : GroupTable) (first : ℕ) where
@@ -311,6 +312,13 @@ module _ (table : GroupTable) (first : ℕ) where
           (lt-ltb (position_or_len is_free near) (length near) (stands_within is_free near q))) ∙ e)))
 
 -- the count of looks
+
+-- a look adds no more than there are groups apart
+pub looks_more : (b c : Bool) (x n looks : ℕ) → looks ≡ (if b then x else if c then x else min (x + n) (2 ^ 64 - 1)) → looks ≤ x + n
+looks_more true c x n looks is = omega (arith, is)
+looks_more false true x n looks is = omega (arith, is)
+looks_more false false x n looks is = omega (arith, is, min-le_left (x + n) (2 ^ 64 - 1))
+
 module _ (keyed : GroupingRows) (row : ℕ) (table : GroupTable) where
   abbrev is_near : ℕ → Bool
   is_near first = list_any (is_of_group keyed table.firsts.items row) (take 8 (drop first table.slots.items))
@@ -334,7 +342,7 @@ module _ (keyed : GroupingRows) (row : ℕ) (table : GroupTable) where
 module _ (keyed : GroupingRows) (row : ℕ) (table : GroupTable) (held : Holds keyed row table) where
   -- looks are no part of what a table holds
   pub held_still : (after : GroupTable) → after ≡ record table { looks = after.looks } → Holds keyed row after
-  held_still after e = subst (Holds keyed row) (sym e) (record { groups = held.groups; keys = held.keys; wide = held.wide; met = held.met })
+  held_still after e = subst (Holds keyed row) (sym e) (record { groups = held.groups; keys = held.keys; wide = held.wide; met = held.met; fewer = held.fewer })
 
   within : (g : ℕ) → is_of_group keyed table.firsts.items row g ≡ true → g < length (first_of (alike keyed) row)
   within g e = subst (λ l. g < length l) held.groups (ltb-true g (length table.firsts.items)
@@ -358,6 +366,7 @@ module _ (keyed : GroupingRows) (row : ℕ) (table : GroupTable) (held : Holds k
     keys = held.keys;
     wide = held.wide;
     met = held.met;
+    fewer = held.fewer;
   })
 
   pub number_is : (g : ℕ) → is_of_group keyed table.firsts.items row g ≡ true
@@ -375,13 +384,17 @@ module _ (keyed : GroupingRows) (row : ℕ) (table : GroupTable) (held : Holds k
 
     pub held_new : (after : GroupTable) → after.firsts.items ≡ table.firsts.items ++ row ∷ []
         → HasKeys keyed (table.firsts.items ++ row ∷ []) after.keys.items → length after.slots.items ≡ length table.slots.items
-        → AreMet keyed (table.firsts.items ++ row ∷ []) after.slots.items after.apart.items → Holds keyed (row + 1) after
-    held_new after f k l m =
+        → AreMet keyed (table.firsts.items ++ row ∷ []) after.slots.items after.apart.items
+        → length after.apart.items ≤ suc (length table.apart.items) → Holds keyed (row + 1) after
+    held_new after f k l m more =
+        let longer : length after.firsts.items ≡ suc (length table.firsts.items) =
+        omega (arith, ap length f, length-append table.firsts.items (row ∷ [])) in
         record {
           groups = f ∙ sym one_more;
           keys = subst (λ firsts. HasKeys keyed firsts after.keys.items) (sym f) k;
           wide = subst (λ n. 8 ≤ n) (sym l) held.wide;
           met = subst (λ firsts. AreMet keyed firsts after.slots.items after.apart.items) (sym f) m;
+          fewer = omega (arith, more, longer, held.fewer);
         }
 
     pub number_new : length table.firsts.items ≡ position_or_len (alike keyed row) (first_of (alike keyed) (row + 1))

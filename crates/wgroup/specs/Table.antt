@@ -72,3 +72,4 @@ pub record Holds (keyed : GroupingRows) (n : ℕ) (table : GroupTable) : Type 0 
   pub keys : HasKeys keyed table.firsts.items table.keys.items
   pub wide : 8 ≤ length table.slots.items
   pub met : AreMet keyed table.firsts.items table.slots.items table.apart.items
+  pub fewer : length table.apart.items ≤ length table.firsts.items

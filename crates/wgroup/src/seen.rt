@@ -2,11 +2,11 @@
 //!
 //! The table is given up where there are many groups, which a sort finds sooner, or where rows were compared with many groups
 //! that stand apart, as those of keys that were chosen for their hashes do.
-ghost use Rattle.std.specs.Prelude.{◌≡◌, ◌*◌, ◌-◌, ◌<◌, ◌≤◌, ◌^◌, false, length, min, IfOk, IfSome};
+ghost use Rattle.std.specs.Prelude.{◌≡◌, ◌+◌, ◌*◌, ◌-◌, ◌<◌, ◌≤◌, ◌^◌, false, length, min, IfOk, IfSome};
 ghost use Rattle.wrows.specs.Laid.{rows_seen};
 ghost use Rattle.wgroup.specs.Grouping.{agree};
-ghost use Rattle.wgroup.specs.Sight.{IsSight};
-ghost use Rattle.wgroup.specs.Table.{alike};
+ghost use Rattle.wgroup.specs.Sight.{IsSight, group_numbers};
+ghost use Rattle.wgroup.specs.Table.{Holds, alike};
 
 use crate::group_slots::{GroupTable, empty_table};
 use crate::keyed::GroupingRows;
@@ -55,15 +55,24 @@ fn is_slow(table: &GroupTable, most: usize, rows: usize) -> bool
     table.looks > rows.saturating_mul(MOST_LOOKS)
 }
 
-// The groups of rows, by a table, unless that is given up.
-fn tabled_groups(alloc: Global, keyed: &GroupingRows) -> Result<Option<Sight>, AllocError>
-    requires { length keyed.now.rows.now < 2 ^ 31 }
-    ensures { IfOk result (λ seen. IfSome seen (λ sight. IsSight (alike keyed.now) (length keyed.now.rows.now)
-        sight.firsts.items sight.numbers.items)) }
+// The numbers of the groups of rows, by a table without groups, unless that is given up. Rows are compared with no more groups that
+// stand apart than that many in the mean, and once more with all of them.
+fn number_rows(
+    alloc: Global,
+    keyed: &GroupingRows,
+    most: usize,
+    table: &mut GroupTable,
+) -> Result<Option<Vec<u32>>, AllocError>
+    requires rows { length keyed.now.rows.now < 2 ^ 31 }
+    requires few { most ≤ 2 ^ 17 }
+    requires held { Holds keyed.now 0 table.old }
+    requires unlooked { table.old.looks ≡ 0 }
+    ensures held { IfOk result (λ numbers. IfSome numbers (λ numbers. Holds keyed.now (length keyed.now.rows.now) table.new)) }
+    ensures numbers { IfOk result (λ numbers. IfSome numbers (λ numbers. numbers.items ≡ group_numbers (alike keyed.now)
+        (length keyed.now.rows.now))) }
+    ensures looks { table.new.looks ≤ length keyed.now.rows.now * 8 + most }
 {
     let count = keyed.rows.len();
-    let most = most_groups(count);
-    let mut table = empty_table(alloc, (most * SLOTS_OF_GROUP).next_power_of_two())?;
     let mut numbers = Vec::with_capacity(alloc, count)?;
     let mut guesses = [0u32; GUESSED];
     for row in 0..count {
@@ -71,10 +80,24 @@ fn tabled_groups(alloc: Global, keyed: &GroupingRows) -> Result<Option<Sight>, A
             table.guess(keyed, row, &mut guesses);
         }
         numbers.push(table.number_guessed(keyed, row, guesses[row % GUESSED])?)?;
-        if is_slow(&table, most, count) {
+        if is_slow(table, most, count) {
             return Ok(None);
         }
     }
+    Ok(Some(numbers))
+}
+
+// The groups of rows, by a table, unless that is given up.
+fn tabled_groups(alloc: Global, keyed: &GroupingRows) -> Result<Option<Sight>, AllocError>
+    requires { length keyed.now.rows.now < 2 ^ 31 }
+    ensures { IfOk result (λ seen. IfSome seen (λ sight. IsSight (alike keyed.now) (length keyed.now.rows.now)
+        sight.firsts.items sight.numbers.items)) }
+{
+    let most = most_groups(keyed.rows.len());
+    let mut table = empty_table(alloc, (most * SLOTS_OF_GROUP).next_power_of_two())?;
+    let Some(numbers) = number_rows(alloc, keyed, most, &mut table)? else {
+        return Ok(None);
+    };
     Ok(Some(Sight {
         firsts: table.firsts,
         numbers,

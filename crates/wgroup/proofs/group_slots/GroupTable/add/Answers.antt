@@ -1,4 +1,4 @@
-use Rattle.std.proofs.Common.{◌≡◌, ◌≤◌, ◌<◌, ◌+◌, ◌-◌, ◌++◌, ◌∷◌, [], length, map, take}
+use Rattle.std.proofs.Common.{◌≡◌, ◌≤◌, ◌<◌, ◌+◌, ◌-◌, ◌++◌, ◌∷◌, [], length, length-append, map, suc, take}
 use Rattle.std.proofs.Common.{drop, set, get_or, refl, subst, sym, ap, ◌∙◌, arith}
 use Rattle.std.specs.Prelude.{Some, nat_le}
 use Rattle.std.specs.List.{position}
@@ -43,19 +43,22 @@ returns-clause-held c =
             long =
                 length-set slots (first + w.in-Some.step) c.len-groups.result;
             met = near;
+            more = omega arith;
           })
       | in-None+in_ok-push-in-None w ↦
           let far : AreMet keyed (firsts ++ row ∷ []) slots w.push.new.self.items
           = subst (AreMet keyed (firsts ++ row ∷ []) slots) (ap (λ n. apart ++ n ∷ []) last
           ∙ sym w.in_ok-push-in-None.ensures.items) (met_apart keyed firsts slots apart met first row c.requires.first) in
-          subst (IsPut keyed row table) (sym w.self-is) (record { firsts = refl; keys = refl; long = refl; met = far })
+          let longer : length w.push.new.self.items ≡ suc (length apart) =
+          omega (arith, ap length w.in_ok-push-in-None.ensures.items, length-append apart (c.len-groups.result ∷ [])) in
+          subst (IsPut keyed row table) (sym w.self-is) (record { firsts = refl; keys = refl; long = refl; met = far; more = omega (arith, longer) })
     ] in
     let keys : HasKeys keyed (firsts ++ row ∷ []) c.push_key.new.cells.items
     = keys_more keyed firsts table.keys.items c.requires.held.keys row (map meaning c.cells_at.result.now)
     c.push_key.new.cells.items c.cells_at.ensures
     (c.in_ok-push_key.ensures ∙ ap (λ l. map meaning l ++ key_in keyed.columns.now (map meaning c.cells_at.result.now)) put.keys) in
     held_new keyed row table c.requires.held c.requires.new _ (c.in_ok-push.ensures.items
-    ∙ ap (λ l. l ++ row ∷ []) put.firsts) keys put.long put.met
+    ∙ ap (λ l. l ++ row ∷ []) put.firsts) keys put.long put.met put.more
 
 pub returns-clause-apart : goal.returns-clause-apart
 returns-clause-apart c =
