@@ -17,7 +17,7 @@ ghost use Rattle.wdistinct.specs.declared.distinct_calls.CallKind.TheVariants.{G
 
 use crate::call_set::CallSet;
 use std::alloc::{AllocError, Global};
-use wnodes::{Children, Node};
+use wnodes::Children;
 use wquery::{Arguments, Call, Expression, Item, Key, Over, Query, Window, WindowEntry};
 use wscope::function_of;
 
@@ -121,7 +121,10 @@ fn collect_below<'a>(
 ) -> Result<(), AllocError>
     ensures { OnOk result (call_trees calls.new.items ≡ call_trees calls.old.items ++ nodes_below (is_call_of kind) (view e.now)) }
 {
-    collect_beside(kind, calls, Node::of(e).children)
+    match Children::of(e) {
+        None => Ok(()),
+        Some(nodes) => collect_beside(kind, calls, nodes),
+    }
 }
 
 #[cycle(collecting)]

@@ -19,7 +19,7 @@ ghost use Rattle.wnames.specs.Types.{is_call_typed as has_typed_call, has_fit_op
 ghost use Rattle.wnames.specs.Types.{is_ill_typed as is_wrong, is_no_condition as is_other, is_truth_item as has_truth};
 ghost use Rattle.wnames.specs.Types.{is_truth_key as is_key_of_truth, is_truth_entry as is_entry_of_truth, breaks_types};
 
-use wnodes::{Children, Node};
+use wnodes::Children;
 use wquery::{Arguments, Call, Expression, Item, Key, Over, Window, WindowEntry};
 use wscope::{
     DataType, Function, Look, NodeTest, Scope, SourceColumn, Takes, any_anywhere, found_if,
@@ -233,7 +233,10 @@ fn all_of(columns: &[SourceColumn], asked: DataType, nodes: Children) -> bool
 fn has_operands_of(columns: &[SourceColumn], asked: DataType, e: &Expression) -> bool
     ensures { result ≡ list_all (is_of_type (all_titled columns.now) asked) (children_of (view e.now)) }
 {
-    all_of(columns, asked, Node::of(e).children)
+    match Children::of(e) {
+        None => true,
+        Some(nodes) => all_of(columns, asked, nodes),
+    }
 }
 
 fn has_operands_alike(columns: &[SourceColumn], e: &Expression) -> bool

@@ -186,8 +186,21 @@ split (Among a t ts) (Among b u us) = ap (λ list. same_bool a b && (is_same t u
     ∙ chain_more (same_bool a b) (is_same t u) (are_same (bare_trees ts) (bare_trees us)) (all_same (found_trees standing ts) (found_trees standing us))
 split _ _ = refl
 
--- nodes as they are made in memory
-pub nodes_same : (t u a b : Tree) (ts us : List Tree) → a ≡ bare t → b ≡ bare u → ts ≡ children_of t → us ≡ children_of u
+-- nodes as they are read in memory: a head and the nodes below of each
+
+nodes_same : (t u a b : Tree) (ts us : List Tree) → a ≡ bare t → b ≡ bare u → ts ≡ children_of t → us ≡ children_of u
     → (is_same a b && all_same ts us) ≡ is_same t u
-nodes_same t u a b ts us ta ub tt uu =
-    (λ i. is_same (ta i) (ub i) && all_same (tt i) (uu i)) ∙ sym (split t u)
+nodes_same t u a b ts us head-t head-u below-t below-u =
+    (λ i. is_same (head-t i) (head-u i) && all_same (below-t i) (below-u i)) ∙ sym (split t u)
+
+-- where the heads are the same
+pub same_then : (t u a b : Tree) (ts us : List Tree) (h r : Bool) → a ≡ bare t → b ≡ bare u → ts ≡ children_of t → us ≡ children_of u
+    → h ≡ is_same a b → h ≡ true → r ≡ all_same ts us → r ≡ is_same t u
+same_then t u a b ts us h r head-t head-u below-t below-u is so rest =
+    rest ∙ ap (λ (x : Bool). x && all_same ts us) (sym so ∙ is) ∙ nodes_same t u a b ts us head-t head-u below-t below-u
+
+-- where they are not
+pub same_else : (t u a b : Tree) (ts us : List Tree) (h : Bool) → a ≡ bare t → b ≡ bare u → ts ≡ children_of t → us ≡ children_of u
+    → h ≡ is_same a b → h ≡ false → h ≡ is_same t u
+same_else t u a b ts us h head-t head-u below-t below-u is so =
+    so ∙ ap (λ (x : Bool). x && all_same ts us) (sym so ∙ is) ∙ nodes_same t u a b ts us head-t head-u below-t below-u

@@ -19,7 +19,7 @@ pub struct Children<'a> {
     keys: &'a [Key],
 }
 
-pub(crate) fn one(e: &Expression) -> &[Expression]
+fn alone(e: &Expression) -> &[Expression]
     ensures { result.now ≡ e.now ∷ [] }
 {
     from_ref(e)
@@ -52,9 +52,8 @@ impl<'a> Children<'a> {
         Children::listed(&[], &[], &[])
     }
 
-    /// Those of three lists.
     #[tactic(auto, unfolding(crate::specs::Children::nodes_left))]
-    pub(crate) fn listed(
+    fn listed(
         first: &'a [Expression],
         second: &'a [Expression],
         third: &'a [Expression],
@@ -70,13 +69,45 @@ impl<'a> Children<'a> {
         }
     }
 
+    /// A node.
+    pub(crate) fn one(e: &'a Expression) -> Children<'a>
+        ensures { nodes_left result ≡ view e.now ∷ [] }
+    {
+        Children::listed(alone(e), &[], &[])
+    }
+
+    /// Two nodes.
+    pub(crate) fn two(left: &'a Expression, right: &'a Expression) -> Children<'a>
+        ensures { nodes_left result ≡ view left.now ∷ view right.now ∷ [] }
+    {
+        Children::listed(alone(left), alone(right), &[])
+    }
+
+    /// Three nodes.
+    pub(crate) fn three(
+        first: &'a Expression,
+        second: &'a Expression,
+        third: &'a Expression,
+    ) -> Children<'a>
+        ensures { nodes_left result ≡ view first.now ∷ view second.now ∷ view third.now ∷ [] }
+    {
+        Children::listed(alone(first), alone(second), alone(third))
+    }
+
+    /// A node, and then those of a list.
+    pub(crate) fn with_list(e: &'a Expression, list: &'a [Expression]) -> Children<'a>
+        ensures { nodes_left result ≡ view e.now ∷ standing_in (views list.now) }
+    {
+        Children::listed(alone(e), &[], list)
+    }
+
     /// The operands of a chain.
     #[tactic(auto, unfolding(crate::specs::Children::nodes_left))]
     pub(crate) fn chained(first: &'a Expression, links: &'a [Link]) -> Children<'a>
         ensures { nodes_left result ≡ view first.now ∷ found_links standing (linked NoLinks (map view_link links.now)) }
     {
         Children {
-            first: one(first),
+            first: alone(first),
             second: &[],
             third: &[],
             links,

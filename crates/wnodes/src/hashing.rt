@@ -10,7 +10,6 @@ ghost use Rattle.wnodes.specs.Sketch.{behind, sketch_of, sketching};
 
 use crate::children::Children;
 use crate::head::Head;
-use crate::node::Node;
 use std::hash::{DefaultHasher, Hash, Hasher};
 use wquery::{Call, Expression};
 
@@ -25,9 +24,8 @@ fn hash_head(state: &mut DefaultHasher, head: &Head)
 fn hash_node(state: &mut DefaultHasher, e: &Expression)
     ensures { state.new ≡ found sketching (view e.now) state.old }
 {
-    let node = Node::of(e);
-    hash_head(state, &node.head);
-    hash_beside(state, node.children);
+    hash_head(state, &Head::of(e));
+    hash_beside(state, Children::below(e));
 }
 
 #[cycle(sketching)]
@@ -45,8 +43,7 @@ pub fn sketch(call: &Call) -> u64
     ensures { result ≡ sketch_of (view_call call.now) }
 {
     let mut state = DefaultHasher::new();
-    let node = Node::of_call(call);
-    hash_head(&mut state, &node.head);
-    hash_beside(&mut state, node.children);
+    hash_head(&mut state, &Head::of_call(call));
+    hash_beside(&mut state, Children::of_call(call));
     state.finish()
 }

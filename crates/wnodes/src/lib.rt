@@ -15,10 +15,10 @@
 
 mod bounds;
 mod children;
+mod forms;
 mod hashing;
 mod head;
 mod marks;
-mod node;
 mod numbers;
 mod sameness;
 
@@ -27,5 +27,4 @@ pub use children::Children;
 pub use hashing::sketch;
 pub use head::{GivenHead, Head, OverHead};
 pub use marks::{FrameMark, Operators, OrderMarks};
-pub use node::Node;
 pub use sameness::{same, same_call};

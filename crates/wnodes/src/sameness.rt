@@ -1,6 +1,6 @@
 //! Expressions that are equal.
 
-ghost use Rattle.std.specs.Prelude.{◌≡◌, ◌&&◌};
+ghost use Rattle.std.specs.Prelude.{◌≡◌};
 ghost use Rattle.wquery.specs.Tree.{view, view_call};
 ghost use Rattle.wnodes.specs.Sameness.{is_same};
 ghost use Rattle.wnodes.specs.Children.{nodes_left};
@@ -8,20 +8,12 @@ ghost use Rattle.wnodes.specs.Heads.{all_same, said};
 
 use crate::children::Children;
 use crate::head::Head;
-use crate::node::Node;
 use wquery::{Call, Expression};
 
 fn same_head(a: &Head, b: &Head) -> bool
     ensures { result ≡ is_same (said a.now) (said b.now) }
 {
     *a == *b
-}
-
-#[cycle(sameness)]
-fn same_node(a: Node, b: Node) -> bool
-    ensures { result ≡ (is_same (said a.entry.head) (said b.entry.head) && all_same (nodes_left a.entry.children) (nodes_left b.entry.children)) }
-{
-    same_head(&a.head, &b.head) && same_beside(a.children, b.children)
 }
 
 #[cycle(sameness)]
@@ -46,12 +38,13 @@ fn same_beside(a: Children, b: Children) -> bool
 pub fn same(a: &Expression, b: &Expression) -> bool
     ensures { result ≡ is_same (view a.now) (view b.now) }
 {
-    same_node(Node::of(a), Node::of(b))
+    same_head(&Head::of(a), &Head::of(b)) && same_beside(Children::below(a), Children::below(b))
 }
 
 /// Whether two calls are equal.
 pub fn same_call(a: &Call, b: &Call) -> bool
     ensures { result ≡ is_same (view_call a.now) (view_call b.now) }
 {
-    same_node(Node::of_call(a), Node::of_call(b))
+    same_head(&Head::of_call(a), &Head::of_call(b))
+        && same_beside(Children::of_call(a), Children::of_call(b))
 }

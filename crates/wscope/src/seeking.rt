@@ -7,7 +7,7 @@ ghost use Rattle.wnodes.specs.Children.{found_all, nodes_left};
 ghost use Rattle.wscope.specs.declared.look.Look.{Look};
 
 use crate::look::Look;
-use wnodes::{Children, Node};
+use wnodes::Children;
 use wquery::{Expression, Window};
 
 /// A test of the nodes of expressions.
@@ -37,7 +37,10 @@ pub fn any_node<T: NodeTest>(test: &T, e: &Expression) -> bool
 pub fn any_below<T: NodeTest>(test: &T, e: &Expression) -> bool
     ensures { result ≡ some_below (T.sees test.now) (view e.now) }
 {
-    any_beside(test, Node::of(e).children)
+    match Children::of(e) {
+        None => false,
+        Some(nodes) => any_beside(test, nodes),
+    }
 }
 
 /// Whether some node of expressions that stand side by side is found.

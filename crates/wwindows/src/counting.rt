@@ -7,7 +7,7 @@ ghost use Rattle.wnodes.specs.Nodes.{found_below};
 ghost use Rattle.wnodes.specs.Children.{found_all, nodes_left};
 ghost use Rattle.wwindows.specs.Limits.{count_over as over_in, has_own, with_own, counting, over_items, over_order, counted};
 
-use wnodes::{Children, Node};
+use wnodes::Children;
 use wquery::{Call, Expression, Item, Key, Over};
 
 /// Where counts stop: one more than the most windows of a query.
@@ -38,7 +38,10 @@ fn count_over(e: &Expression) -> u32
 fn count_below(e: &Expression) -> u32
     ensures { result ≡ counted (found_below counting (view e.now)) }
 {
-    count_beside(Node::of(e).children)
+    match Children::of(e) {
+        None => 0,
+        Some(nodes) => count_beside(nodes),
+    }
 }
 
 #[cycle(counting)]

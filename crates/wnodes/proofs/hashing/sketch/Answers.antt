@@ -11,6 +11,6 @@ use Rattle.wnodes.proofs.hashing.sketch.Goals as goal
 pub returns : goal.returns
 returns c =
     c.finish.ensures ∙ ap hasher.finish (c.hash_beside.ensures
-    ∙ ap (λ (s : DefaultHasher). found_all sketching (nodes_left c.of_call-node.result.children) s) c.hash_head.ensures
-    ∙ node_sketched (view_call c.args.call.now) _ _ c.new-state.result c.of_call-node.ensures.head c.of_call-node.ensures.children
+    ∙ ap (λ (s : DefaultHasher). found_all sketching (nodes_left c.of_call-2.result) s) c.hash_head.ensures
+    ∙ node_sketched (view_call c.args.call.now) _ _ c.new-state.result c.of_call.ensures c.of_call-2.ensures
     ∙ ap (found sketching (view_call c.args.call.now)) c.new-state.ensures)

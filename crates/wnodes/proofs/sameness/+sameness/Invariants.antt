@@ -8,9 +8,6 @@ use Rattle.wnodes.proofs.sameness.+sameness.Given as goal
 abbrev pub decreases-same : goal.decreases-same
 decreases-same l = 3 * found sizing (view l.a.now)
 
-abbrev pub decreases-same_node : goal.decreases-same_node
-decreases-same_node l = 3 * found_all sizing (nodes_left l.a.children) + 2
-
 abbrev pub decreases-same_beside : goal.decreases-same_beside
 decreases-same_beside l = 3 * found_all sizing (nodes_left l.a) + 1
 

@@ -7,4 +7,4 @@ use Rattle.wnodes.proofs.children.Children.chained.Goals as goal
 
 pub returns : goal.returns
 unfolding nodes_left
-returns c = search (c.one.ensures, linked_all (map view_link c.args.links.now), append-nil (operands (map view_link c.args.links.now)))
+returns c = search (c.alone.ensures, linked_all (map view_link c.args.links.now), append-nil (operands (map view_link c.args.links.now)))
