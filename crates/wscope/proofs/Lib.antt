@@ -5,5 +5,6 @@ mod StarColumns
 mod WrittenOut
 mod Indexed
 mod Made
+mod Own
 pub mod Grouped
 mod Placed

@@ -19,6 +19,7 @@ use std::collections::BTreeMap;
 use wquery::Item;
 
 // The items of a name with one more behind them.
+#[tactic(auto, using(crate::proofs::Own::own_shown))]
 fn with_item<'a>(
     columns: &[SourceColumn],
     known: Option<&Called<'a>>,
@@ -31,7 +32,7 @@ fn with_item<'a>(
     match known {
         None => Called {
             first: output,
-            is_ambiguous: !same_output(columns, output, output),
+            is_ambiguous: false,
         },
         Some(called) => Called {
             first: called.first,
