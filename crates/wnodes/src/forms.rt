@@ -11,6 +11,7 @@ use crate::head::{GivenHead, Head, OverHead};
 use crate::marks::{FrameMark, Operators, OrderMarks};
 use wquery::{Arguments, Call, ChainKind, Expression, Link, Over, Window};
 
+// How many expressions there are, which are left out.
 #[tactic(auto, using(crate::proofs::Bare::left_out_is))]
 fn count(list: &[Expression]) -> usize
     ensures { left_out result ≡ bare_trees (trees (views list.now)) }
@@ -112,7 +113,7 @@ macro_rules! children {
 impl<'a> Head<'a> {
     /// What a call says itself.
     #[tactic(auto, using(crate::proofs::Views::view_call_is))]
-    pub fn of_call(call: &'a Call) -> Head<'a>
+    pub(crate) fn of_call(call: &'a Call) -> Head<'a>
         ensures { said result ≡ bare (view_call call.now) }
     {
         Head::Call {
@@ -143,7 +144,7 @@ impl<'a> Head<'a> {
 
     /// What the node of an expression says itself.
     #[tactic(auto, unfolding(wquery::specs::Tree::view, wquery::specs::Tree::view_call, wquery::specs::Tree::view_link))]
-    pub fn of(e: &'a Expression) -> Head<'a>
+    pub(crate) fn of(e: &'a Expression) -> Head<'a>
         ensures { said result ≡ bare (view e.now) }
     {
         form!(e, head)

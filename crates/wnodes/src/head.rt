@@ -6,7 +6,7 @@ use wquery::{ChainKind, Comparison};
 
 /// What stands in the parentheses of a call, and of how many expressions.
 #[derive(Clone, Copy, PartialEq, Eq, Hash, Drop)]
-pub enum GivenHead {
+pub(crate) enum GivenHead {
     Star,
     Listed(usize),
     Columns(usize),
@@ -14,7 +14,7 @@ pub enum GivenHead {
 
 /// What a call reaches over.
 #[derive(Clone, Copy, PartialEq, Eq, Hash, Drop)]
-pub enum OverHead<'a> {
+pub(crate) enum OverHead<'a> {
     Group,
     Named(&'a RcStr),
     Windowed {
@@ -28,7 +28,7 @@ pub enum OverHead<'a> {
 /// What a node says itself, as equality sees it: two heads are equal where the nodes differ at most in those below them. A
 /// column is told by its name alone.
 #[derive(Clone, Copy, PartialEq, Eq, Hash, Drop)]
-pub enum Head<'a> {
+pub(crate) enum Head<'a> {
     Null,
     Number(u128),
     Text(&'a RcStr),

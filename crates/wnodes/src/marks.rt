@@ -20,19 +20,19 @@ use wquery::{Frame, FrameBound, Key, Link};
 
 /// The operators of a chain, from the first on.
 #[derive(Clone, Copy, Drop)]
-pub struct Operators<'a> {
+pub(crate) struct Operators<'a> {
     pub(crate) links: &'a [Link],
 }
 
 /// How each key of an order sorts, from the first on. ASC is as nothing.
 #[derive(Clone, Copy, Drop)]
-pub struct OrderMarks<'a> {
+pub(crate) struct OrderMarks<'a> {
     pub(crate) keys: &'a [Key],
 }
 
 /// A frame clause, or none. An end that is left out is CURRENT ROW, and EXCLUDE NO OTHERS is as nothing.
 #[derive(Clone, Copy, Drop)]
-pub struct FrameMark<'a> {
+pub(crate) struct FrameMark<'a> {
     pub(crate) frame: &'a Option<Frame>,
 }
 
