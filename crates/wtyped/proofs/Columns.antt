@@ -23,7 +23,7 @@ use Rattle.wtyped.specs.Plans.{is_any, types_at, with_type}
 use Rattle.wtyped.specs.Shapes.{is_field}
 use Rattle.wtyped.specs.Typing.{has, type_at}
 use Rattle.std.proofs.lemmas.List.{append-nil, map-append}
-use Rattle.wdistinct.specs.Same as equality
+use Rattle.wnodes.specs.Plain as equality
 
 -- a column of the source that is there
 pub plain_cell : (cs : List Titled) (name : List ℕ) (more : List DataType) → list_any (has_name name) cs ≡ true
