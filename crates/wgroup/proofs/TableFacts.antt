@@ -342,7 +342,13 @@ module _ (keyed : GroupingRows) (row : ℕ) (table : GroupTable) where
 module _ (keyed : GroupingRows) (row : ℕ) (table : GroupTable) (held : Holds keyed row table) where
   -- looks are no part of what a table holds
   pub held_still : (after : GroupTable) → after ≡ record table { looks = after.looks } → Holds keyed row after
-  held_still after e = subst (Holds keyed row) (sym e) (record { groups = held.groups; keys = held.keys; wide = held.wide; met = held.met; fewer = held.fewer })
+  held_still after e = subst (Holds keyed row) (sym e) (record {
+    groups = held.groups;
+    keys = held.keys;
+    wide = held.wide;
+    met = held.met;
+    fewer = held.fewer;
+  })
 
   within : (g : ℕ) → is_of_group keyed table.firsts.items row g ≡ true → g < length (first_of (alike keyed) row)
   within g e = subst (λ l. g < length l) held.groups (ltb-true g (length table.firsts.items)

@@ -40,14 +40,17 @@ step true false s = refl
 step false m s = refl
 
 same_linked : (f g : Links) (xs ys : List Branch) → count_links f ≡ count_links g
-    → are_same_links (bare_links (linked f xs)) (bare_links (linked g ys)) ≡ (are_same_links (bare_links f) (bare_links g) && same_marks xs ys)
+    → are_same_links (bare_links (linked f xs)) (bare_links (linked g ys))
+    ≡ (are_same_links (bare_links f) (bare_links g) && same_marks xs ys)
 same_linked f g [] [] e = sym (and_true (are_same_links (bare_links f) (bare_links g)))
 same_linked f g [] (y ∷ ys) e = other_count f (linked (Further g y.operator y.operand) ys)
     (λ h. let k : count_links (linked (Further g y.operator y.operand) ys) ≡ suc (count_links g) + length ys =
-    count_linked (Further g y.operator y.operand) ys in absurd (omega arith)) ∙ sym (and_false (are_same_links (bare_links f) (bare_links g)))
+    count_linked (Further g y.operator y.operand) ys in absurd (omega arith))
+    ∙ sym (and_false (are_same_links (bare_links f) (bare_links g)))
 same_linked f g (x ∷ xs) [] e = other_count (linked (Further f x.operator x.operand) xs) g
     (λ h. let k : count_links (linked (Further f x.operator x.operand) xs) ≡ suc (count_links f) + length xs =
-    count_linked (Further f x.operator x.operand) xs in absurd (omega arith)) ∙ sym (and_false (are_same_links (bare_links f) (bare_links g)))
+    count_linked (Further f x.operator x.operand) xs in absurd (omega arith))
+    ∙ sym (and_false (are_same_links (bare_links f) (bare_links g)))
 same_linked f g (x ∷ xs) (y ∷ ys) e = same_linked (Further f x.operator x.operand) (Further g y.operator y.operand) xs ys
     (ap suc e) ∙ step (are_same_links (bare_links f) (bare_links g)) (is_same_mark x y) (same_marks xs ys)
 

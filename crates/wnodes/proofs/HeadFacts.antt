@@ -35,7 +35,8 @@ use Rattle.wnodes.specs.Sameness.{is_same, are_same, are_same_given, is_same_fil
 use Rattle.wnodes.specs.Sameness.{are_same_keys, are_same_links, comparison_number, same_frame}
 use Rattle.wnodes.specs.Heads.{left_out, said, said_filter, said_given, said_keys, said_links, said_over}
 use Rattle.wnodes.specs.Nodes.{count_trees}
-use Rattle.wnodes.specs.Hashed.{kind_number, written, written_filter, written_frame, written_given, written_keys, written_links, written_reach}
+use Rattle.wnodes.specs.Hashed.{kind_number, written, written_filter, written_frame, written_given, written_keys, written_links}
+use Rattle.wnodes.specs.Hashed.{written_reach}
 use Rattle.wnodes.proofs.Fronts.{and_true}
 
 left_same : (n : ℕ) → are_same (left_out n) (left_out n) ≡ true
@@ -145,7 +146,8 @@ filters_written : (b : Bool) → fed.bool b ≡ written_filter (said_filter b)
 filters_written true = refl
 filters_written false = refl
 
-copies_written : (a : Option (RcStr Global)) → fed.option (λ (x : RcStr Global). fed.str (rc_str_bytes x)) a ≡ fed.option fed.str (name_bytes a)
+copies_written : (a : Option (RcStr Global)) → fed.option (λ (x : RcStr Global). fed.str (rc_str_bytes x)) a
+    ≡ fed.option fed.str (name_bytes a)
 copies_written None = refl
 copies_written (Some a) = refl
 

@@ -6,10 +6,12 @@ use Rattle.std.specs.declared.hash.DefaultHasher.{DefaultHasher}
 use Rattle.wquery.specs.Tree.{Tree, Invoked, Negated, Signed, Joined, Compared, NullTest, Within}
 use Rattle.wquery.specs.Tree.{Among, Trees, NoTrees, MoreTrees, Links, NoLinks, Further, Given, Everything, These, Columns, Filter}
 use Rattle.wquery.specs.Tree.{Unfiltered, FilteredBy, Reach, ItsGroup, ThatWindow, OwnWindow, Keys, NoKeys, MoreKeys}
-use Rattle.wnodes.specs.Nodes.{count_trees, Findings, found, found_below, found_trees, found_links, found_given, found_filter, found_reach, found_keys}
+use Rattle.wnodes.specs.Nodes.{count_trees, Findings, found, found_below, found_trees, found_links, found_given, found_filter}
+use Rattle.wnodes.specs.Nodes.{found_reach, found_keys}
 use Rattle.wnodes.specs.Sameness.{is_same, nulls_number, operator_number}
 use Rattle.wnodes.specs.Heads.{bare, bare_filter, bare_given, bare_keys, bare_links, bare_reach, bare_trees}
-use Rattle.wnodes.specs.Hashed.{kind_number, list_end, written, written_filter, written_given, written_keys, written_operators, written_reach}
+use Rattle.wnodes.specs.Hashed.{kind_number, list_end, written, written_filter, written_given, written_keys, written_operators}
+use Rattle.wnodes.specs.Hashed.{written_reach}
 use Rattle.wnodes.specs.Sketch.{behind, sketching, sketch_of}
 use Rattle.wnodes.specs.Plain.{plain, plain_trees, plain_links, plain_given, plain_filter, plain_reach, plain_keys, to}
 use Rattle.wnodes.specs.Alike.{frame_kept}

@@ -14,4 +14,5 @@ pub node_sketched : (t h : Tree) (ts : List Tree) (s : DefaultHasher) → h ≡ 
     → found_all sketching ts (behind (written h) s) ≡ found sketching t s
 node_sketched t h ts s is e =
     let below = below_all sketching (record { left = λ m. refl; right = λ m. refl; three = λ l m n. refl }) t in
-    (λ i. found_all sketching (e i) (behind (written (is i)) s)) ∙ ap (λ (m : DefaultHasher → DefaultHasher). m (behind (written (bare t)) s)) (sym below)
+    (λ i. found_all sketching (e i) (behind (written (is i)) s))
+    ∙ ap (λ (m : DefaultHasher → DefaultHasher). m (behind (written (bare t)) s)) (sym below)

@@ -1,5 +1,6 @@
 -- Two expressions are equal where they say the same themselves and the nodes below them are equal one by one.
-use Rattle.std.proofs.Common.{◌≡◌, suc, ◌+◌, Bool, true, false, ◌&&◌, List, [], ◌∷◌, ◌++◌, length, refl, sym, ap, ap₂, ◌∙◌, true≢false, arith}
+use Rattle.std.proofs.Common.{◌≡◌, suc, ◌+◌, Bool, true, false, ◌&&◌, List, [], ◌∷◌, ◌++◌, length, refl, sym, ap, ap₂, ◌∙◌, true≢false}
+use Rattle.std.proofs.Common.{arith}
 use Rattle.std.proofs.lemmas.List.{length-append}
 use Rattle.std.specs.Prelude.{nat_eq}
 use Rattle.std.specs.Str.{bytes_eq}
@@ -57,18 +58,21 @@ behind (t ∷ ts) [] vs ws e = absurd (omega (arith, e))
 
 -- lists that say the same are as long
 
-trees_long : (ts us : Trees) → are_same (bare_trees ts) (bare_trees us) ≡ true → length (found_trees standing ts) ≡ length (found_trees standing us)
+trees_long : (ts us : Trees) → are_same (bare_trees ts) (bare_trees us) ≡ true
+    → length (found_trees standing ts) ≡ length (found_trees standing us)
 trees_long NoTrees NoTrees e = refl
 trees_long (MoreTrees t ts) (MoreTrees u us) e = ap suc (trees_long ts us e)
 trees_long _ _ e = absurd (true≢false (sym e))
 
-given_long : (g h : Given) → are_same_given (bare_given g) (bare_given h) ≡ true → length (found_given standing g) ≡ length (found_given standing h)
+given_long : (g h : Given) → are_same_given (bare_given g) (bare_given h) ≡ true
+    → length (found_given standing g) ≡ length (found_given standing h)
 given_long Everything Everything e = refl
 given_long (These ts) (These us) e = trees_long ts us e
 given_long (Columns ts) (Columns us) e = trees_long ts us e
 given_long _ _ e = absurd (true≢false (sym e))
 
-filter_long : (f k : Filter) → is_same_filter (bare_filter f) (bare_filter k) ≡ true → length (found_filter standing f) ≡ length (found_filter standing k)
+filter_long : (f k : Filter) → is_same_filter (bare_filter f) (bare_filter k) ≡ true
+    → length (found_filter standing f) ≡ length (found_filter standing k)
 filter_long Unfiltered Unfiltered e = refl
 filter_long (FilteredBy t) (FilteredBy u) e = refl
 filter_long _ _ e = absurd (true≢false (sym e))
@@ -77,7 +81,8 @@ both : (a b : Bool) → (a && b) ≡ true → (a ≡ true) × (b ≡ true)
 both true b h = (refl, h)
 both false b h = absurd (true≢false (sym h))
 
-links_long : (ts us : Links) → are_same_links (bare_links ts) (bare_links us) ≡ true → length (found_links standing ts) ≡ length (found_links standing us)
+links_long : (ts us : Links) → are_same_links (bare_links ts) (bare_links us) ≡ true
+    → length (found_links standing ts) ≡ length (found_links standing us)
 links_long NoLinks NoLinks e = refl
 links_long (Further f a t) (Further g b u) e =
     let less = links_long f g (both (are_same_links (bare_links f) (bare_links g)) _ e).0 in
@@ -86,17 +91,20 @@ links_long _ _ e = absurd (true≢false (sym e))
 
 -- lists
 
-split_trees : (ts us : Trees) → are_same ts us ≡ (are_same (bare_trees ts) (bare_trees us) && all_same (found_trees standing ts) (found_trees standing us))
+split_trees : (ts us : Trees) → are_same ts us ≡ (are_same (bare_trees ts) (bare_trees us)
+    && all_same (found_trees standing ts) (found_trees standing us))
 split_trees NoTrees NoTrees = refl
 split_trees (MoreTrees t ts) (MoreTrees u us) = ap (λ b. is_same t u && b) (split_trees ts us)
     ∙ swap (is_same t u) (are_same (bare_trees ts) (bare_trees us)) (all_same (found_trees standing ts) (found_trees standing us))
 split_trees _ _ = refl
 
-split_keys : (ks js : Keys) → are_same_keys ks js ≡ (are_same_keys (bare_keys ks) (bare_keys js) && all_same (found_keys standing ks) (found_keys standing js))
+split_keys : (ks js : Keys) → are_same_keys ks js ≡ (are_same_keys (bare_keys ks) (bare_keys js)
+    && all_same (found_keys standing ks) (found_keys standing js))
 split_keys NoKeys NoKeys = refl
 split_keys (MoreKeys t a m ks) (MoreKeys u b n js) =
     ap (λ rest. is_same t u && (same_bool a b && (nat_eq (nulls_number m) (nulls_number n) && rest))) (split_keys ks js)
-    ∙ sorted (is_same t u) (same_bool a b) (nat_eq (nulls_number m) (nulls_number n)) (are_same_keys (bare_keys ks) (bare_keys js)) (all_same (found_keys standing ks) (found_keys standing js))
+    ∙ sorted (is_same t u) (same_bool a b) (nat_eq (nulls_number m) (nulls_number n)) (are_same_keys (bare_keys ks) (bare_keys js))
+    (all_same (found_keys standing ks) (found_keys standing js))
 split_keys _ _ = refl
 
 link_more : (b a m s x : Bool) → (b ≡ true → x ≡ (a && (s && true))) → ((b && a) && (m && s)) ≡ ((b && (m && true)) && x)
@@ -106,7 +114,8 @@ link_more true false true s x h = sym (h refl)
 link_more true false false s x h = refl
 link_more false a m s x h = refl
 
-split_links : (ts us : Links) → are_same_links ts us ≡ (are_same_links (bare_links ts) (bare_links us) && all_same (found_links standing ts) (found_links standing us))
+split_links : (ts us : Links) → are_same_links ts us ≡ (are_same_links (bare_links ts) (bare_links us)
+    && all_same (found_links standing ts) (found_links standing us))
 split_links NoLinks NoLinks = refl
 split_links (Further f a t) (Further g b u) =
     ap (λ front. front && (nat_eq (operator_number a) (operator_number b) && is_same t u)) (split_links f g)
@@ -115,13 +124,15 @@ split_links (Further f a t) (Further g b u) =
     (λ e. behind (found_links standing f) (found_links standing g) (t ∷ []) (u ∷ []) (links_long f g e))
 split_links _ _ = refl
 
-split_given : (g h : Given) → are_same_given g h ≡ (are_same_given (bare_given g) (bare_given h) && all_same (found_given standing g) (found_given standing h))
+split_given : (g h : Given) → are_same_given g h ≡ (are_same_given (bare_given g) (bare_given h)
+    && all_same (found_given standing g) (found_given standing h))
 split_given Everything Everything = refl
 split_given (These ts) (These us) = split_trees ts us
 split_given (Columns ts) (Columns us) = split_trees ts us
 split_given _ _ = refl
 
-split_filter : (f k : Filter) → is_same_filter f k ≡ (is_same_filter (bare_filter f) (bare_filter k) && all_same (found_filter standing f) (found_filter standing k))
+split_filter : (f k : Filter) → is_same_filter f k ≡ (is_same_filter (bare_filter f) (bare_filter k)
+    && all_same (found_filter standing f) (found_filter standing k))
 split_filter Unfiltered Unfiltered = refl
 split_filter (FilteredBy t) (FilteredBy u) = sym (and_true (is_same t u))
 split_filter _ _ = refl
@@ -136,14 +147,17 @@ window_more true true false true ak false x h = refl
 window_more true true true false ak f x h = refl
 window_more true true false false ak f x h = refl
 
-split_reach : (r q : Reach) → is_same_reach r q ≡ (is_same_reach (bare_reach r) (bare_reach q) && all_same (found_reach standing r) (found_reach standing q))
+split_reach : (r q : Reach) → is_same_reach r q ≡ (is_same_reach (bare_reach r) (bare_reach q)
+    && all_same (found_reach standing r) (found_reach standing q))
 split_reach ItsGroup ItsGroup = refl
 split_reach (ThatWindow a) (ThatWindow b) = sym (and_true (bytes_eq a b))
 split_reach (OwnWindow a ts ks f) (OwnWindow b us js g) =
     ap₂ (λ parts order. same_copied a b && (parts && (order && same_frame f g))) (split_trees ts us) (split_keys ks js)
-    ∙ window_more (same_copied a b) (are_same (bare_trees ts) (bare_trees us)) (all_same (found_trees standing ts) (found_trees standing us))
+    ∙ window_more (same_copied a b) (are_same (bare_trees ts) (bare_trees us)) (all_same (found_trees standing ts)
+    (found_trees standing us))
     (are_same_keys (bare_keys ks) (bare_keys js)) (all_same (found_keys standing ks) (found_keys standing js))
-    (same_frame f g) _ (λ e. behind (found_trees standing ts) (found_trees standing us) (found_keys standing ks) (found_keys standing js) (trees_long ts us e))
+    (same_frame f g) _ (λ e. behind (found_trees standing ts) (found_trees standing us) (found_keys standing ks)
+    (found_keys standing js) (trees_long ts us e))
 split_reach _ _ = refl
 
 call_more : (c b1 a1 b2 a2 b3 a3 x : Bool) → (b1 ≡ true → b2 ≡ true → x ≡ (a1 && (a2 && a3)))
@@ -178,12 +192,14 @@ split (Invoked a g f r) (Invoked b h k q) =
 split (Negated t) (Negated u) = sym (and_true (is_same t u))
 split (Signed a t) (Signed b u) = one (same_bool a b) (is_same t u)
 split (Joined a t ts) (Joined b u us) = ap (λ links. same_kind a b && (is_same t u && links)) (split_links ts us)
-    ∙ chain_more (same_kind a b) (is_same t u) (are_same_links (bare_links ts) (bare_links us)) (all_same (found_links standing ts) (found_links standing us))
+    ∙ chain_more (same_kind a b) (is_same t u) (are_same_links (bare_links ts) (bare_links us)) (all_same (found_links standing ts)
+    (found_links standing us))
 split (Compared a t v) (Compared b u w) = two (nat_eq (comparison_number a) (comparison_number b)) (is_same t u) (is_same v w)
 split (NullTest a t) (NullTest b u) = one (same_bool a b) (is_same t u)
 split (Within a t l m) (Within b u n o) = three (same_bool a b) (is_same t u) (is_same l n) (is_same m o)
 split (Among a t ts) (Among b u us) = ap (λ list. same_bool a b && (is_same t u && list)) (split_trees ts us)
-    ∙ chain_more (same_bool a b) (is_same t u) (are_same (bare_trees ts) (bare_trees us)) (all_same (found_trees standing ts) (found_trees standing us))
+    ∙ chain_more (same_bool a b) (is_same t u) (are_same (bare_trees ts) (bare_trees us)) (all_same (found_trees standing ts)
+    (found_trees standing us))
 split _ _ = refl
 
 -- nodes as they are read in memory: a head and the nodes below of each

@@ -1,5 +1,6 @@
 pub mod Scene
 pub mod Keys
 pub mod Breaches
+pub mod Names
 pub mod Items
 pub mod Notes

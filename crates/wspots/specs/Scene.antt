@@ -1,7 +1,14 @@
 -- A SELECT in its text, and the names in it.
-use Rattle.std.specs.Prelude.{ℕ, ◌+◌, ◌-◌, ◌^◌, ◌==◌, min, Bool, false, not, ◌&&◌, List, Option, Some, None, option_map, length}
+use Rattle.std.specs.Prelude.{ℕ, suc, [], ◌∷◌, ◌||◌, is_some, nat_eq, ◌+◌, ◌-◌, ◌^◌, ◌==◌, min, Bool, false, not, ◌&&◌, List, Option}
+use Rattle.std.specs.Prelude.{Some, None, option_map, length}
 use Rattle.std.specs.Prelude.{count_by, nat_le, slice_get, slice_range, unwrap_or, if◌then◌else◌}
 use denote.Enum.Bare.{sameb}
+use Rattle.std.specs.List.{list_any}
+use Rattle.std.specs.Rc.{rc_str_bytes}
+use Rattle.wquery.specs.declared.query.Query.{Query}
+use Rattle.wscope.specs.declared.source.SourceColumn.{SourceColumn}
+use Rattle.wclauses.specs.Pairs.{is_group_call}
+use Rattle.wspots.specs.declared.scene.Written.{Written}
 use Rattle.wlexer.specs.declared.token.Symbol.TheVariants.{Dot}
 use Rattle.wlexer.specs.declared.token.Token.{Token}
 use Rattle.wlexer.specs.Token.{meaning_of}
@@ -117,3 +124,24 @@ stands_at level (Some standing) = standing.level == level
 
 abbrev pub has_token : Scene → ℕ → Bool
 has_token scene token = stands_at scene.level (standing_at scene token)
+
+-- ---- whether a SELECT is grouped
+
+-- an aggregate without OVER stands at a mark of this level
+abbrev pub is_group_mark : Written → ℕ → Mark → Bool
+is_group_mark written level mark = mark.level == level && (sameb roles mark.role Identifier
+    && (is_called written.tokens.now mark.token && is_group_call written.clauses.now.pairs.pairs.items written.tokens.now mark.token))
+
+abbrev pub has_group_call : Written → ℕ → Bool
+has_group_call written level = list_any (is_group_mark written level) written.marks.now
+
+-- GROUP BY, HAVING or an aggregate without OVER makes it so
+abbrev pub is_grouped : Written → Query → ℕ → Bool
+is_grouped written query level =
+    (not (nat_eq (length query.grouping.items) 0) || is_some query.having) || has_group_call written level
+
+-- the place of the first column that is none of some names, where these columns stand from a place on
+abbrev pub first_ungrouped : (List ℕ → Bool) → ℕ → List SourceColumn → Option ℕ
+first_ungrouped groups place [] = None
+first_ungrouped groups place (column ∷ columns) =
+    if groups (rc_str_bytes column.name) then first_ungrouped groups (suc place) columns else Some place

@@ -3,6 +3,7 @@
 ghost use Rattle.std.specs.Prelude.{◌≡◌};
 ghost use Rattle.wspots.specs.Scene.{tokens_of};
 ghost use Rattle.wspots.specs.Breaches.{IsAmong, wants_grouped};
+ghost use Rattle.wspots.specs.Names.{ungrouped_column, ungrouped_star};
 
 use crate::notes::{Breach, Told};
 use crate::scene::Scene;
@@ -26,7 +27,8 @@ fn wants_grouped(scene: &Scene<'_>, token: usize) -> bool
 
 /// A column that is not in GROUP BY, where only those may stand.
 pub(crate) fn ungrouped_column(scene: &Scene<'_>, number: usize) -> Option<Breach>
-    ensures { IsAmong (tokens_of scene.now) result }
+    ensures breach { result ≡ ungrouped_column scene.now number }
+    ensures among { IsAmong (tokens_of scene.now) result }
 {
     let named = scene.column(number)?;
     if scene.groups_by(named.name) || !wants_grouped(scene, named.token) {
@@ -41,7 +43,8 @@ pub(crate) fn ungrouped_column(scene: &Scene<'_>, number: usize) -> Option<Breac
 /// The item `*` of a grouped SELECT, where it stands for a column that is not in GROUP BY.
 #[tactic(auto, using(crate::proofs::Within::star_within))]
 pub(crate) fn ungrouped_star(scene: &Scene<'_>, token: usize) -> Option<Breach>
-    ensures { IsAmong (tokens_of scene.now) result }
+    ensures breach { result ≡ ungrouped_star scene.now token }
+    ensures among { IsAmong (tokens_of scene.now) result }
 {
     let place = scene.ungrouped?;
     if !is_star(scene.written.tokens, token) || !scene.has_token(token) {

@@ -1,8 +1,12 @@
 //! Where in a query the name stands that breaks a rule.
 
-ghost use Rattle.std.specs.Prelude.{◌≡◌, IfOk};
+ghost use Rattle.std.specs.Prelude.{◌≡◌, IfOk, option_map};
 ghost use Rattle.wspots.specs.Scene.{tokens_of};
+ghost use Rattle.wscope.specs.Sources.{all_titled};
 ghost use Rattle.wspots.specs.Breaches.{IsAmong, IsSpot, earlier_of};
+ghost use Rattle.wspots.specs.Names.{ambiguous_name, breach_at, breach_at_token, entry_before, first_name, first_token};
+ghost use Rattle.wspots.specs.Names.{missing_column, named_from, other_source, other_table, repeated_window, unknown_window};
+ghost use Rattle.wspots.specs.Names.{first_told, told_at, windows_told, wrong_place};
 
 use crate::calls::{
     long_grouping, misplaced_aggregate, misplaced_function, misplaced_grouping, wrong_call,
@@ -37,7 +41,8 @@ pub(crate) struct Spot {
 // A table that is not the declared one.
 #[tactic(auto, using(crate::proofs::Within::name_within))]
 fn other_table(scene: &Scene<'_>, number: usize) -> Option<Breach>
-    ensures { IsAmong (tokens_of scene.now) result }
+    ensures breach { result ≡ other_table scene.now number }
+    ensures among { IsAmong (tokens_of scene.now) result }
 {
     let mark = scene.mark_of(number, Role::Table)?;
     let name = name_at(scene.written.tokens, mark.token)?;
@@ -50,7 +55,8 @@ fn other_table(scene: &Scene<'_>, number: usize) -> Option<Breach>
 // What stands before a dot, and is not the name of the source.
 #[tactic(auto, using(crate::proofs::Within::source_within))]
 fn other_source(scene: &Scene<'_>, number: usize) -> Option<Breach>
-    ensures { IsAmong (tokens_of scene.now) result }
+    ensures breach { result ≡ other_source scene.now number }
+    ensures among { IsAmong (tokens_of scene.now) result }
 {
     let mark = scene.mark_of(number, Role::Identifier)?;
     let qualifier = scene.column(number)?.qualifier?;
@@ -62,7 +68,8 @@ fn other_source(scene: &Scene<'_>, number: usize) -> Option<Breach>
 
 // A column that the source lacks.
 fn missing_column(scene: &Scene<'_>, number: usize) -> Option<Breach>
-    ensures { IsAmong (tokens_of scene.now) result }
+    ensures breach { result ≡ missing_column scene.now number }
+    ensures among { IsAmong (tokens_of scene.now) result }
 {
     let named = scene.column(number)?;
     if has_column(scene.columns, named.name) || scene.is_output(number, &named) {
@@ -72,14 +79,21 @@ fn missing_column(scene: &Scene<'_>, number: usize) -> Option<Breach>
 }
 
 // The place of the second column of a name.
-fn second_named(columns: &[SourceColumn], name: &str, first: usize) -> Option<usize> {
-    columns.iter().enumerate().position(|(place, column)| place > first
-        && column.name.as_str() == name)
+fn second_named(columns: &[SourceColumn], name: &str, first: usize) -> Option<usize>
+    ensures { result ≡ named_from name.now first 0 (all_titled columns.now) }
+{
+    'columns: for (place, column) in columns.iter().enumerate() {
+        if place > first && column.has_name(name) {
+            return Some(place);
+        }
+    }
+    None
 }
 
 // A name that two columns have, or two items.
 fn ambiguous_name(scene: &Scene<'_>, number: usize) -> Option<Breach>
-    ensures { IsAmong (tokens_of scene.now) result }
+    ensures breach { result ≡ ambiguous_name scene.now number }
+    ensures among { IsAmong (tokens_of scene.now) result }
 {
     let named = scene.column(number)?;
     if scene.is_output(number, &named) {
@@ -92,14 +106,18 @@ fn ambiguous_name(scene: &Scene<'_>, number: usize) -> Option<Breach>
 }
 
 // Whether the mark before one is the WINDOW entry that it belongs to.
-fn entry_before(scene: &Scene<'_>, number: usize) -> Option<usize> {
+fn entry_before(scene: &Scene<'_>, number: usize) -> Option<usize>
+    ensures { result ≡ entry_before scene.now number }
+{
     let before = number.checked_sub(1)?;
     scene.mark_of(before, Role::Entry)?;
     Some(before)
 }
 
 // What is told of a window, copied by the entry at a mark, if one does.
-fn windows_told(copier: Option<usize>) -> Told {
+fn windows_told(copier: Option<usize>) -> Told
+    ensures { result ≡ windows_told copier }
+{
     match copier {
         Some(entry) => Told::WindowsBefore(entry),
         None => Told::Windows,
@@ -109,7 +127,8 @@ fn windows_told(copier: Option<usize>) -> Told {
 // The window that is used or copied at a mark, which no entry defines that may be meant.
 #[tactic(auto, using(crate::proofs::Within::name_within))]
 fn unknown_window(scene: &Scene<'_>, number: usize) -> Option<Breach>
-    ensures { IsAmong (tokens_of scene.now) result }
+    ensures breach { result ≡ unknown_window scene.now number }
+    ensures among { IsAmong (tokens_of scene.now) result }
 {
     let mark = scene.mark(number)?;
     if mark.role != Role::Use && mark.role != Role::Copy {
@@ -129,7 +148,8 @@ fn unknown_window(scene: &Scene<'_>, number: usize) -> Option<Breach>
 // A WINDOW entry whose name an earlier one has.
 #[tactic(auto, using(crate::proofs::Within::name_within))]
 fn repeated_window(scene: &Scene<'_>, number: usize) -> Option<Breach>
-    ensures { IsAmong (tokens_of scene.now) result }
+    ensures breach { result ≡ repeated_window scene.now number }
+    ensures among { IsAmong (tokens_of scene.now) result }
 {
     let mark = scene.mark_of(number, Role::Entry)?;
     let name = name_at(scene.written.tokens, mark.token)?;
@@ -143,7 +163,8 @@ fn repeated_window(scene: &Scene<'_>, number: usize) -> Option<Breach>
 // A literal in ORDER BY that is no place of an item.
 #[tactic(auto, using(crate::proofs::Within::wrong_within))]
 fn wrong_place(scene: &Scene<'_>, number: usize) -> Option<Breach>
-    ensures { IsAmong (tokens_of scene.now) result }
+    ensures breach { result ≡ wrong_place scene.now number }
+    ensures among { IsAmong (tokens_of scene.now) result }
 {
     let begin = scene.mark_of(number, Role::KeyBegin)?;
     let end = scene.mark_of(number.saturating_add(1), Role::KeyEnd)?;
@@ -156,7 +177,8 @@ fn wrong_place(scene: &Scene<'_>, number: usize) -> Option<Breach>
 
 // What breaks a rule at the mark of this number.
 fn breach_at(scene: &Scene<'_>, number: usize, rule: Rule) -> Option<Breach>
-    ensures { IsAmong (tokens_of scene.now) result }
+    ensures breach { result ≡ breach_at scene.now number rule }
+    ensures among { IsAmong (tokens_of scene.now) result }
 {
     match rule {
         Rule::UnknownTable => match other_table(scene, number) {
@@ -179,7 +201,8 @@ fn breach_at(scene: &Scene<'_>, number: usize, rule: Rule) -> Option<Breach>
 
 // What breaks a rule at the token of this number, which is no name.
 fn breach_at_token(scene: &Scene<'_>, number: usize, rule: Rule) -> Option<Breach>
-    ensures { IsAmong (tokens_of scene.now) result }
+    ensures breach { result ≡ breach_at_token scene.now number rule }
+    ensures among { IsAmong (tokens_of scene.now) result }
 {
     match rule {
         Rule::WrongCall => long_grouping(scene, number),
@@ -191,7 +214,8 @@ fn breach_at_token(scene: &Scene<'_>, number: usize, rule: Rule) -> Option<Breac
 
 // The first name of a SELECT that breaks a rule.
 fn first_name(scene: &Scene<'_>, rule: Rule) -> Option<Breach>
-    ensures { IsAmong (tokens_of scene.now) result }
+    ensures breach { result ≡ first_name scene.now rule }
+    ensures among { IsAmong (tokens_of scene.now) result }
 {
     for number in 0..scene.written.marks.len() {
         let breach = breach_at(scene, number, rule);
@@ -204,14 +228,9 @@ fn first_name(scene: &Scene<'_>, rule: Rule) -> Option<Breach>
 
 // The first other token of a SELECT that breaks a rule.
 fn first_token(scene: &Scene<'_>, rule: Rule) -> Option<Breach>
-    ensures { IsAmong (tokens_of scene.now) result }
+    ensures breach { result ≡ first_token scene.now rule }
+    ensures among { IsAmong (tokens_of scene.now) result }
 {
-    if !matches!(
-        rule,
-        Rule::WrongCall | Rule::MisplacedAggregate | Rule::UngroupedColumn
-    ) {
-        return None;
-    }
     for number in 0..scene.written.tokens.len() {
         let breach = breach_at_token(scene, number, rule);
         if breach.is_some() {
@@ -234,7 +253,8 @@ fn earlier(one: Option<Breach>, other: Option<Breach>) -> Option<Breach>
 
 // The first place in a SELECT where a rule is broken, and what is told of it.
 fn find_in(alloc: Global, scene: &Scene<'_>, rule: Rule) -> Result<Option<Spot>, AllocError>
-    ensures { IfOk result (λ found. IsSpot (tokens_of scene.now) found) }
+    ensures first { IfOk result (λ found. option_map told_at found ≡ first_told scene.now rule) }
+    ensures among { IfOk result (λ found. IsSpot (tokens_of scene.now) found) }
 {
     let Some(breach) = earlier(first_name(scene, rule), first_token(scene, rule)) else {
         return Ok(None);

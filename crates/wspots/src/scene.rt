@@ -1,6 +1,6 @@
 //! A SELECT in its text, and the names in it.
 
-ghost use Rattle.std.specs.Prelude.{◌≡◌, ◌<◌, ◌&&◌, length, IfOk, IfSome, is_none, option_map};
+ghost use Rattle.std.specs.Prelude.{◌≡◌, ◌<◌, ◌&&◌, length, None, IfOk, IfSome, if◌then◌else◌, is_none, option_map};
 ghost use Rattle.std.specs.List.{list_all};
 ghost use Rattle.wlexer.specs.Token.{lexeme_meaning};
 ghost use Rattle.wquery.specs.QueryTree.{view_source};
@@ -8,6 +8,8 @@ ghost use Rattle.wclauses.specs.Pairs.{arguments, has_filter, has_over, is_group
 ghost use Rattle.wspots.specs.Scene.{spelled, column_at, tokens_of, pairs_of, source_name, mark_at, mark_of, column, function};
 ghost use Rattle.wspots.specs.Scene.{is_key, has_token};
 ghost use Rattle.wspots.specs.Items.{has_item};
+ghost use Rattle.wspots.specs.Scene.{first_ungrouped, has_group_call, is_grouped};
+ghost use Rattle.wspots.specs.Names.{groups_by, holds};
 ghost use Rattle.wspots.specs.Keys.{is_parenthesis, is_place, is_wrong_key, says_sign, wrong_literal};
 
 use crate::outputs::Outputs;
@@ -129,8 +131,10 @@ fn grouped_of<'a>(
 }
 
 // Whether a SELECT has an aggregate without OVER, those of its derived table aside.
-fn has_group_call(written: Written<'_>, level: usize) -> bool {
-    for mark in written.marks {
+fn has_group_call(written: Written<'_>, level: usize) -> bool
+    ensures { result ≡ has_group_call written.entry level }
+{
+    'marks: for mark in written.marks {
         if mark.level != level
             || mark.role != Role::Identifier
             || !is_called(written.tokens, mark.token)
@@ -149,7 +153,9 @@ fn has_group_call(written: Written<'_>, level: usize) -> bool {
 }
 
 // Whether a SELECT is grouped.
-fn is_grouped(written: Written<'_>, query: &Query, level: usize) -> bool {
+fn is_grouped(written: Written<'_>, query: &Query, level: usize) -> bool
+    ensures { result ≡ is_grouped written.entry query.now level }
+{
     if !query.grouping.is_empty() || query.having.is_some() {
         return true;
     }
@@ -157,8 +163,10 @@ fn is_grouped(written: Written<'_>, query: &Query, level: usize) -> bool {
 }
 
 // The place of the first column that is none of these names.
-fn first_ungrouped(columns: &[SourceColumn], grouped: &BTreeSet<&str>) -> Option<usize> {
-    for (place, column) in columns.iter().enumerate() {
+fn first_ungrouped(columns: &[SourceColumn], grouped: &BTreeSet<&str>) -> Option<usize>
+    ensures { result ≡ first_ungrouped (holds grouped.now) 0 columns.now }
+{
+    'columns: for (place, column) in columns.iter().enumerate() {
         if !grouped.contains(column.name.as_str()) {
             return Some(place);
         }
@@ -189,7 +197,14 @@ impl<'a> Scene<'a> {
         query: &'a Query,
         level: usize,
     ) -> Result<Scene<'a>, AllocError>
-        ensures { IfOk result (λ scene. tokens_of scene ≡ written.entry.tokens.now) }
+        ensures tokens { IfOk result (λ scene. tokens_of scene ≡ written.entry.tokens.now) }
+        ensures written { IfOk result (λ scene. scene.written ≡ written.entry) }
+        ensures columns { IfOk result (λ scene. scene.columns.now ≡ columns.now) }
+        ensures query { IfOk result (λ scene. scene.query.now ≡ query.now) }
+        ensures level { IfOk result (λ scene. scene.level ≡ level) }
+        ensures grouped { IfOk result (λ scene. scene.is_grouped ≡ is_grouped written.entry query.now level) }
+        ensures ungrouped { IfOk result (λ scene. scene.ungrouped ≡ (if scene.is_grouped then first_ungrouped (groups_by scene) 0
+            columns.now else None)) }
     {
         let outputs = Outputs::new(alloc, columns, query.items.as_slice())?;
         let entries = entries_of(alloc, written.tokens, written.marks, level)?;
@@ -286,7 +301,9 @@ impl<'a> Scene<'a> {
     }
 
     /// Whether a column of this name is in GROUP BY. Where no name means two columns, one name is one column.
-    pub(crate) fn groups_by(&self, name: &str) -> bool {
+    pub(crate) fn groups_by(&self, name: &str) -> bool
+        ensures { result ≡ groups_by self.now name.now }
+    {
         self.grouped.contains(name)
     }
 

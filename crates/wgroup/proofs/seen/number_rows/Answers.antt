@@ -1,11 +1,10 @@
-use Rattle.std.proofs.Common.{◌≡◌, ◌≤◌, ◌+◌, ◌*◌, ◌-◌, length, ap, ◌∙◌, arith}
+use Rattle.std.proofs.Common.{◌≡◌, ◌*◌, ◌-◌, length, ap, ◌∙◌, arith}
 use Rattle.std.specs.Prelude.{◌^◌}
 use Rattle.std.proofs.Math.Nat.{min-le_left}
 use Rattle.wrows.specs.Laid.{rows_seen}
 use Rattle.wgroup.specs.Table.{alike}
 use Rattle.wgroup.proofs.SeenFacts.{agree_equiv}
 use Rattle.wgroup.proofs.SightFacts.{numbers_next}
-use Rattle.wgroup.proofs.TableFacts.{looks_more}
 use Rattle.wgroup.proofs.seen.number_rows.Goals as goal
 
 pub loop-row-init : goal.loop-row-init

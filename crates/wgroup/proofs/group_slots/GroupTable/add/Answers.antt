@@ -51,7 +51,13 @@ returns-clause-held c =
           ∙ sym w.in_ok-push-in-None.ensures.items) (met_apart keyed firsts slots apart met first row c.requires.first) in
           let longer : length w.push.new.self.items ≡ suc (length apart) =
           omega (arith, ap length w.in_ok-push-in-None.ensures.items, length-append apart (c.len-groups.result ∷ [])) in
-          subst (IsPut keyed row table) (sym w.self-is) (record { firsts = refl; keys = refl; long = refl; met = far; more = omega (arith, longer) })
+          subst (IsPut keyed row table) (sym w.self-is) (record {
+            firsts = refl;
+            keys = refl;
+            long = refl;
+            met = far;
+            more = omega (arith, longer);
+          })
     ] in
     let keys : HasKeys keyed (firsts ++ row ∷ []) c.push_key.new.cells.items
     = keys_more keyed firsts table.keys.items c.requires.held.keys row (map meaning c.cells_at.result.now)
