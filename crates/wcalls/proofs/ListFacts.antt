@@ -10,7 +10,6 @@ use Rattle.std.proofs.lemmas.List.{length-map}
 use Rattle.std.proofs.Math.Nat.{mul-le-mul_right}
 use Rattle.std.proofs.lemmas.List.Elements.{All-from_recursion, All-same, recursion_from_All}
 use Rattle.wvalues.specs.declared.key.SortKey.{SortKey}
-use Rattle.wvalues.specs.declared.value.Value.TheVariants as values
 use Rattle.wvalues.specs.Meaning.{Meaning, meaning}
 use Rattle.wvalues.specs.Order.{keys_cmp}
 use Rattle.wvalues.specs.OrderLaws.{keys_total}
@@ -20,7 +19,6 @@ use Rattle.wframe.proofs.SortFacts.{all_sorted, length_sorted}
 use Rattle.wrows.specs.CodedRows.{key_column, key_of, AreCodes, AreRowCodes}
 use Rattle.wrows.specs.Columns.{value_at}
 use Rattle.wrows.specs.Laid.{row_seen, rows_in, rows_seen}
-use Rattle.wrows.specs.LaidRows.{laid}
 use Rattle.wrows.proofs.KeyFacts.{codes_of_one_key}
 use Rattle.wrows.proofs.RowFacts.{length-laid, row_at, row_wide}
 use Rattle.wrows.specs.declared.cells.Cells.{Cells}

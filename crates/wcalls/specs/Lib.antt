@@ -4,6 +4,7 @@ pub mod Calls
 pub mod Functions
 pub mod Sound
 pub mod Lent
+pub mod Near
 pub mod Kept
 pub mod ListedColumns
 pub mod ListedValues

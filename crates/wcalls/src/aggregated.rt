@@ -15,6 +15,7 @@ ghost use Rattle.wcalls.specs.Functions.{function_column};
 ghost use Rattle.wcalls.specs.Arranged.{answered, IsArranged};
 
 use crate::arranged::ArrangedRows;
+use crate::near::near_values;
 use std::alloc::Global;
 use waggregate::{
     Argument, Fed, Tally, argument_values, filter_rows, plain_argument, put_frame_aggregates,
@@ -97,9 +98,8 @@ fn evaluated_column(
     fed_column(alloc, aggregate, argument, arranged, column, tally)
 }
 
-/// Puts the column of an aggregate, by the numbers of the rows. A plain column is read where it lies. The tally rises by the
-/// joins that it takes.
-pub(crate) fn aggregated_column(
+// Puts the column of an aggregate, by the numbers of the rows, with its argument read where it lies, if it is a plain column.
+fn read_column(
     alloc: Global,
     aggregate: &Aggregate,
     arranged: &ArrangedRows,
@@ -116,5 +116,30 @@ pub(crate) fn aggregated_column(
     match plain_argument(&aggregate.argument, arranged.rows) {
         Some(argument) => fed_column(alloc, aggregate, argument, arranged, column, tally),
         None => evaluated_column(alloc, aggregate, arranged, column, tally),
+    }
+}
+
+/// Puts the column of an aggregate, by the numbers of the rows. A plain column is not evaluated: what it has is read in its copy, if
+/// there is one, and else where it lies. The tally rises by the joins that it takes.
+pub(crate) fn aggregated_column(
+    alloc: Global,
+    aggregate: &Aggregate,
+    arranged: &ArrangedRows,
+    column: &mut [Value],
+    tally: &mut Tally,
+) -> Result<(), AnswerFault>
+    requires { length column.old ≡ length arranged.now.order.now }
+    ensures joins { tally.new ≤ tally.old + most_by_queues arranged.now.partitions.now.frame.exclusion (length arranged.now.order.now) }
+    ensures not_less { tally.old ≤ tally.new }
+    ensures column { (w : Windowed) → IsArranged w arranged.now.order.now arranged.now.partitions.now
+        → Gives (λ _. map meaning column.new) result (function_column (rows_seen arranged.now.rows.now) w
+        (Aggregated (aggregate_plan aggregate.now))) }
+{
+    match near_values(&aggregate.argument, arranged.near) {
+        Some(values) => {
+            let argument = Argument::Values(values);
+            fed_column(alloc, aggregate, argument, arranged, column, tally)
+        }
+        None => read_column(alloc, aggregate, arranged, column, tally),
     }
 }

@@ -1,6 +1,8 @@
 //! The rows of a window.
 ghost use Rattle.std.specs.Prelude.{◌≡◌, ◌<◌, ◌^◌, All, length};
+ghost use Rattle.wcalls.specs.Near.{IsNear};
 
+use crate::near::NearColumn;
 use wframe::Partitions;
 use wvalues::Value;
 
@@ -9,6 +11,8 @@ use wvalues::Value;
 pub(crate) struct ArrangedRows<'a, 'r> {
     /// The rows, by number.
     pub(crate) rows: &'r [&'r [Value]],
+    /// Copies of columns of the rows, whose values lie side by side.
+    pub(crate) near: &'a [NearColumn],
     /// The numbers of the rows, in the window's order.
     pub(crate) order: &'a [u32],
     /// The partitions of rows in that order, with the frame of each row.
@@ -17,4 +21,5 @@ pub(crate) struct ArrangedRows<'a, 'r> {
     ghost dealt: { length order.now ≡ length partitions.now.keys },
     ghost below: { All (λ i. i < length order.now) order.now },
     ghost few: { length order.now < 2 ^ 31 },
+    ghost copies: { All (IsNear rows.now) near.now },
 }

@@ -17,6 +17,7 @@ ghost use Rattle.wcalls.specs.Ordered.{ordered_rows};
 
 use crate::arranged::ArrangedRows;
 use crate::functions::function_column;
+use crate::near::near_columns;
 use crate::parts::frame_of;
 use crate::room::{Room, rooms};
 use crate::window_order::WindowOrder;
@@ -84,14 +85,17 @@ pub fn window_columns<'r>(
         (window_columns (window_plan window.now) (functions_seen functions.now) (rows_seen rows.entry.now)) }
     ensures kept { IfOk result (λ columns. map are_values columns.items ≡ map is_aggregate (functions_seen functions.now)) }
 {
-    // Room for all columns at once, since a list that grows is held twice while it is moved; and before the frames, whose room is then
-    // free for the answer's text behind the columns.
+    // Room for all columns at once, since a list that grows is held twice while it is moved; and before the frames and the copies, whose
+    // room is then free for the answer's text behind the columns.
     let rooms = rooms(alloc, functions, rows.len())?;
+    let numbers = order.rows();
+    let near = near_columns(alloc, functions, rows, numbers)?;
     let keys = order.key_rows();
     let partitions = order.partitions(alloc, keys, frame_of(&window.frame))?;
     let arranged = ArrangedRows {
         rows,
-        order: order.rows(),
+        near: &near,
+        order: numbers,
         partitions: &partitions,
     };
     every_column(alloc, functions, &arranged, rooms, tally)

@@ -58,7 +58,7 @@ fn other_rows_column<'r, P: RowPlaces + Copy>(
         (λ i. P.place_read places (length (partition_rows w i)) (partition_at w i) (place_at w i))) }
     ensures kept { IfOk result (λ column. are_values column ≡ false) }
 {
-    let values = column_values(alloc, expr, arranged.rows)?;
+    let values = column_values(alloc, expr, arranged)?;
     let otherwise = default.duplicate()?;
     let call = OtherRow { places };
     let numbers = kept_numbers(&call, arranged, room.numbers)?;

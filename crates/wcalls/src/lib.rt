@@ -26,6 +26,7 @@ mod function_columns;
 mod functions;
 mod limits;
 mod listing;
+mod near;
 mod other_rows;
 mod parts;
 mod plain_lists;

@@ -7,7 +7,10 @@ ghost use Rattle.wrows.specs.Outcomes.{Gives};
 ghost use Rattle.wrows.specs.Columns.{column_of};
 ghost use Rattle.wrows.specs.Laid.{rows_seen};
 
-use std::alloc::Global;
+use crate::arranged::ArrangedRows;
+use crate::near::near_values;
+use std::alloc::{AllocError, Global};
+use std::rc::Rc;
 use wcolumns::ColumnValues;
 use wplan::Expr;
 use wrows::{AnswerFault, lists, place_of};
@@ -22,17 +25,44 @@ fn value_column(alloc: Global, expr: &Expr, rows: &[&[Value]]) -> Result<Vec<Val
     Ok(column)
 }
 
-/// An expression's values on rows. Those of a plain column are not copied.
-pub(crate) fn column_values<'a>(
+/// Values that several columns may hold.
+pub(crate) fn shared(alloc: Global, values: Vec<Value>) -> Result<Rc<Vec<Value>>, AllocError>
+    ensures { IfOk result (λ shared. shared.value.items ≡ values.items) }
+{
+    let Ok(shared) = Rc::new(alloc, values) else {
+        return Err(AllocError);
+    };
+    Ok(shared)
+}
+
+// An expression's values on rows, worked out on each.
+fn evaluated_values<'a>(
     alloc: Global,
     expr: &Expr,
-    rows: &'a [&'a [Value]],
+    rows: &[&[Value]],
 ) -> Result<ColumnValues<'a>, AnswerFault>
     ensures { Gives values_seen result (column_of (formula expr.now) (rows_seen rows.now)) }
 {
-    if let Some(place) = place_of(expr) {
-        return Ok(ColumnValues::Plain { rows, place });
-    }
-    let values = value_column(alloc, expr, rows)?;
+    let column = value_column(alloc, expr, rows)?;
+    let values = shared(alloc, column)?;
     Ok(ColumnValues::Evaluated(values))
+}
+
+/// An expression's values on rows. Those of a plain column are those of its copy, if there is one, and else are read where they lie.
+pub(crate) fn column_values<'a>(
+    alloc: Global,
+    expr: &Expr,
+    arranged: &ArrangedRows<'_, 'a>,
+) -> Result<ColumnValues<'a>, AnswerFault>
+    ensures { Gives values_seen result (column_of (formula expr.now) (rows_seen arranged.now.rows.now)) }
+{
+    if let Some(near) = near_values(expr, arranged.near) {
+        let values = near.clone()?;
+        return Ok(ColumnValues::Evaluated(values));
+    }
+    let rows = arranged.rows;
+    match place_of(expr) {
+        Some(place) => Ok(ColumnValues::Plain { rows, place }),
+        None => evaluated_values(alloc, expr, rows),
+    }
 }

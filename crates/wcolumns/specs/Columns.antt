@@ -19,7 +19,7 @@ abbrev pub placed : ℕ → List (Bor (List Value)) → List Meaning
 placed place rows = map (λ row. slice_index_or (map meaning row.now) place Null) rows
 
 abbrev pub values_seen : ColumnValues → List Meaning
-values_seen (values.Evaluated cells) = map meaning cells.items
+values_seen (values.Evaluated cells) = map meaning cells.value.items
 values_seen (values.Plain rows place) = placed place rows.now
 
 -- the value of the row that is kept as one more than its number, or a default

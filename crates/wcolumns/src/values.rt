@@ -3,13 +3,14 @@ ghost use Rattle.std.specs.Prelude.{◌≡◌, map, slice_index_or};
 ghost use Rattle.wvalues.specs.Meaning.{Null, meaning};
 ghost use Rattle.wcolumns.specs.Columns.{placed, values_seen};
 
+use std::rc::Rc;
 use wvalues::Value;
 
 /// The values of an expression on rows, by number.
 #[derive(Drop)]
 pub enum ColumnValues<'a> {
-    /// What it was evaluated to on each row.
-    Evaluated(Vec<Value>),
+    /// What it was evaluated to on each row, which several columns may share.
+    Evaluated(Rc<Vec<Value>>),
     /// A plain column: the values at a place of the rows.
     Plain {
         rows: &'a [&'a [Value]],
