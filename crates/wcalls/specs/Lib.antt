@@ -4,7 +4,6 @@ pub mod Calls
 pub mod Functions
 pub mod Sound
 pub mod Lent
-pub mod Near
 pub mod Kept
 pub mod ListedColumns
 pub mod ListedValues

@@ -1,8 +1,8 @@
 //! The rows of a window.
 ghost use Rattle.std.specs.Prelude.{◌≡◌, ◌<◌, ◌^◌, All, length};
-ghost use Rattle.wcalls.specs.Near.{IsNear};
+ghost use Rattle.wcolumns.specs.Near.{IsNear};
 
-use crate::near::NearColumn;
+use wcolumns::NearColumn;
 use wframe::Partitions;
 use wvalues::Value;
 

@@ -25,8 +25,8 @@ fn value_column(alloc: Global, expr: &Expr, rows: &[&[Value]]) -> Result<Vec<Val
     Ok(column)
 }
 
-/// Values that several columns may hold.
-pub(crate) fn shared(alloc: Global, values: Vec<Value>) -> Result<Rc<Vec<Value>>, AllocError>
+// Values that several columns may hold.
+fn shared(alloc: Global, values: Vec<Value>) -> Result<Rc<Vec<Value>>, AllocError>
     ensures { IfOk result (λ shared. shared.value.items ≡ values.items) }
 {
     let Ok(shared) = Rc::new(alloc, values) else {

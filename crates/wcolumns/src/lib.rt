@@ -10,10 +10,12 @@
 
 mod column;
 mod field;
+mod near;
 mod other_rows;
 mod values;
 
 pub use column::{Column, LentColumn};
 pub use field::Field;
+pub use near::{NearColumn, lie_apart, near_column};
 pub use other_rows::OtherRows;
 pub use values::{ColumnValues, value_of_row, value_or_null};

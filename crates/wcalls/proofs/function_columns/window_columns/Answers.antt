@@ -3,6 +3,7 @@ use Rattle.std.specs.Prelude.{All}
 use Rattle.std.proofs.lemmas.List.{length-map}
 use Rattle.wvalues.specs.Meaning.{Meaning}
 use Rattle.wcolumns.specs.Columns.{column_seen}
+use Rattle.wcolumns.specs.Near.{IsNear}
 use Rattle.wcolumns.specs.declared.column.Column.{Column}
 use Rattle.wplan.specs.Plans.{window_plan}
 use Rattle.wrows.specs.declared.fault.AnswerFault.{AnswerFault}
@@ -12,7 +13,6 @@ use Rattle.wrows.proofs.RowFacts.{then_ok}
 use Rattle.wcalls.specs.Arranged.{IsArranged}
 use Rattle.wcalls.specs.Functions.{function_column}
 use Rattle.wcalls.specs.Lent.{functions_seen}
-use Rattle.wcalls.specs.Near.{IsNear}
 use Rattle.wcalls.specs.Windows.{windowed}
 use Rattle.wcalls.proofs.WindowedFacts.{opened, rows_long}
 use Rattle.wcalls.proofs.function_columns.window_columns.Goals as goal

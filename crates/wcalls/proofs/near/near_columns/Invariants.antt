@@ -1,5 +1,5 @@
 use Rattle.std.specs.Prelude.{All}
-use Rattle.wcalls.specs.Near.{IsNear}
+use Rattle.wcolumns.specs.Near.{IsNear}
 use Rattle.wcalls.proofs.near.near_columns.Given as goal
 
 abbrev pub invariant-loop-function : goal.invariant-loop-function
