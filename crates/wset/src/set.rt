@@ -78,17 +78,6 @@ impl Model for SegmentSet {
     ghost invariant = { IsOrderly };
 }
 
-/// A segment, if these are its bytes.
-fn with_bytes<'a>(kept: &'a Kept, bytes: &[u8]) -> Option<&'a Kept>
-    ensures known { IsTrue (is_some result) ↔ (kept.now.content.bytes ≡ bytes.now) }
-    ensures same { IfSome result (λ same. same.now ≡ kept.now) }
-{
-    if kept.bytes() == bytes {
-        return Some(kept);
-    }
-    None
-}
-
 impl SegmentSet {
     /// A set that knows nothing, for segments of this declaration. It takes no memory. It makes the cells of a segment as it takes it.
     pub fn new(alloc: Global, schema: Schema) -> SegmentSet
@@ -155,7 +144,8 @@ impl SegmentSet {
         ensures settled { IsSettled self.now.view }
     {
         match self.held(name) {
-            Some(Held::Live(known)) => with_bytes(known, bytes),
+            Some(Held::Live(known)) if known.bytes() == bytes => Some(known),
+            Some(Held::Live(_)) => None,
             Some(Held::Disputed) => None,
             Some(Held::Retired) => None,
             Some(Held::Floor) => None,
@@ -448,13 +438,6 @@ impl SegmentSet {
         self.put(name, Held::Disputed)
     }
 
-    /// Whether the other set has the same declaration.
-    fn is_alike(&self, other: &SegmentSet) -> bool
-        ensures { IsTrue result ↔ (self.now.schema ≡ other.now.schema) }
-    {
-        self.schema.is_same(&other.schema)
-    }
-
     /// Learns all that the other set knows. Sets of different declarations are not joined; there, and
     /// where memory runs out, the set is as it was.
     ///
@@ -472,7 +455,7 @@ impl SegmentSet {
         ensures idle { self.old.schema ≡ other.now.schema → join self.old.view other.now.view ≡ self.old.view → self.new ≡ self.old }
         ensures err { OnErr result (self.new ≡ self.old) }
     {
-        if !self.is_alike(other) {
+        if !self.schema.is_same(&other.schema) {
             return Err(JoinError::OtherSchema);
         }
         if !teaches(&self.blocks, &other.blocks) {

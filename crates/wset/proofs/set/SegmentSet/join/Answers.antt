@@ -12,8 +12,7 @@ pub invariant_of-self : goal.invariant_of-self
 invariant_of-self c =
     let known = ap known_entries (c.in-Ok-in_blocks.ensures.same ∙ c.deref-5.ensures.value)
     ∙ (rw (c.deref-3.ensures.value, c.deref-4.ensures.value) at c.in-Ok.ensures.known) in
-    let same : c.other.inside.schema ≡ c.self.inside.schema = ap (λ s. s.schema) c.other.view_is
-    ∙ sym (c.is_alike.ensures.0 c.if-not-is_alike.false) ∙ sym (ap (λ s. s.schema) c.self.view_is) in
+    let same : c.other.inside.schema ≡ c.self.inside.schema = sym (c.is_same.ensures.0 c.if-not-is_same.false) in
     record {
       rising = rising_join (flat c.self.inside.blocks.items) (flat c.other.inside.blocks.items)
           (flat c.in-Ok-in_blocks.blocks.items) c.self.invariant.rising c.other.invariant.rising known;
