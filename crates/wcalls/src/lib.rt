@@ -12,7 +12,8 @@
 //! kept with the order. Each function answers one partition after another there, and each answer is put at its row's number in
 //! the function's column. A function that is no aggregate keeps a number there, a count or that of the row which it reads: one list a
 //! function, whatever the number of partitions, and one of the values of an argument that is more than a plain column. Values are made
-//! of such columns where they are asked for (`listed_columns`).
+//! of such columns where they are asked for (`listed_columns`). Where many rows lie apart in the order, the plain columns that functions
+//! read are copied first, so that their values lie side by side.
 //!
 //! Read `specs/Frames.antt`, `specs/Windows.antt`, `specs/Calls.antt` and `specs/Functions.antt`, then
 //! `specs/Ordered.antt`, `specs/PresortedRows.antt`, `specs/Arranged.antt`, `specs/Listed.antt`, `specs/Kept.antt` and
