@@ -1,3 +1,4 @@
 pub mod Within
 pub mod Firsts
 pub mod Ungrouped
+mod Entered

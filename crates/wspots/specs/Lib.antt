@@ -4,3 +4,4 @@ pub mod Breaches
 pub mod Names
 pub mod Items
 pub mod Notes
+pub mod Made

@@ -4,6 +4,7 @@ ghost use Rattle.std.specs.Prelude.{◌≡◌, IfOk, option_map};
 ghost use Rattle.wspots.specs.Scene.{tokens_of};
 ghost use Rattle.wscope.specs.Sources.{all_titled};
 ghost use Rattle.wspots.specs.Breaches.{IsAmong, IsSpot, earlier_of};
+ghost use Rattle.wspots.specs.Made.{IsTold};
 ghost use Rattle.wspots.specs.Names.{ambiguous_name, breach_at, breach_at_token, entry_before, first_name, first_token};
 ghost use Rattle.wspots.specs.Names.{missing_column, named_from, other_source, other_table, repeated_window, unknown_window};
 ghost use Rattle.wspots.specs.Names.{first_told, told_at, windows_told, wrong_place};
@@ -290,7 +291,8 @@ fn find_over(
     level: usize,
     rule: Rule,
 ) -> Result<Option<Spot>, AllocError>
-    ensures { IfOk result (λ found. IsSpot written.entry.tokens.now found) }
+    ensures told { IfOk result (λ found. IsTold written.entry columns.now select.now level rule found) }
+    ensures among { IfOk result (λ found. IsSpot written.entry.tokens.now found) }
 {
     let scene = Scene::new(alloc, written, columns, select, level)?;
     find_in(alloc, &scene, rule)

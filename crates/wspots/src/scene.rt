@@ -10,6 +10,7 @@ ghost use Rattle.wspots.specs.Scene.{is_key, has_token};
 ghost use Rattle.wspots.specs.Items.{has_item};
 ghost use Rattle.wspots.specs.Scene.{first_ungrouped, has_group_call, is_grouped};
 ghost use Rattle.wspots.specs.Names.{groups_by, holds};
+ghost use Rattle.wspots.specs.Made.{HasEntries, HasNames, IsSceneOf, entry_name, grouped_name};
 ghost use Rattle.wspots.specs.Keys.{is_parenthesis, is_place, is_wrong_key, says_sign, wrong_literal};
 
 use crate::outputs::Outputs;
@@ -89,24 +90,50 @@ pub(crate) fn column_at(tokens: &[Token], number: usize) -> Option<Named<'_>>
     })
 }
 
-// The WINDOW entries of a SELECT by their names.
+// The name of the WINDOW entry of a level at a mark, without bytes where none is told.
+fn entry_name<'a>(tokens: &'a [Token], level: usize, mark: &Mark) -> Option<&'a str>
+    ensures { option_map (λ name. name.now) result ≡ entry_name tokens.entry.now level mark.now }
+{
+    if mark.level != level || mark.role != Role::Entry {
+        return None;
+    }
+    Some(name_at(tokens, mark.token).unwrap_or(""))
+}
+
+// The WINDOW entries of a SELECT by their names, each the number of its first mark.
 fn entries_of<'a>(
     alloc: Global,
     tokens: &'a [Token],
     marks: &[Mark],
     level: usize,
-) -> Result<BTreeMap<&'a str, usize>, AllocError> {
+) -> Result<BTreeMap<&'a str, usize>, AllocError>
+    ensures { IfOk result (λ entries. HasEntries tokens.entry.now level marks.now entries) }
+{
     let mut entries = BTreeMap::new(alloc);
-    for (number, mark) in marks.iter().enumerate() {
-        if mark.level != level || mark.role != Role::Entry {
+    'marks: for (number, mark) in marks.iter().enumerate() {
+        let Some(name) = entry_name(tokens, level, mark) else {
+            continue;
+        };
+        if entries.contains_key(name) {
             continue;
         }
-        let name = name_at(tokens, mark.token).unwrap_or("");
-        if !entries.contains_key(name) {
-            entries.insert(name, number)?;
-        }
+        entries.insert(name, number)?;
     }
     Ok(entries)
+}
+
+// The name of the column of a level at a mark that stands in GROUP BY.
+fn grouped_name<'a>(written: Written<'a>, level: usize, mark: &Mark) -> Option<&'a str>
+    ensures { option_map (λ name. name.now) result ≡ grouped_name written.entry level mark.now }
+{
+    if mark.level != level || mark.role != Role::Identifier {
+        return None;
+    }
+    if !written.clauses.is_in(mark.token, Clause::Grouping) {
+        return None;
+    }
+    let named = column_at(written.tokens, mark.token)?;
+    Some(named.name)
 }
 
 // The names of the columns in the GROUP BY of a SELECT.
@@ -114,18 +141,15 @@ fn grouped_of<'a>(
     alloc: Global,
     written: Written<'a>,
     level: usize,
-) -> Result<BTreeSet<&'a str>, AllocError> {
+) -> Result<BTreeSet<&'a str>, AllocError>
+    ensures { IfOk result (λ names. HasNames written.entry level names) }
+{
     let mut names = BTreeSet::new(alloc);
-    for mark in written.marks {
-        if mark.level != level || mark.role != Role::Identifier {
+    'marks: for mark in written.marks {
+        let Some(name) = grouped_name(written, level, mark) else {
             continue;
-        }
-        if !written.clauses.is_in(mark.token, Clause::Grouping) {
-            continue;
-        }
-        if let Some(named) = column_at(written.tokens, mark.token) {
-            names.insert(named.name)?;
-        }
+        };
+        names.insert(name)?;
     }
     Ok(names)
 }
@@ -197,14 +221,7 @@ impl<'a> Scene<'a> {
         query: &'a Query,
         level: usize,
     ) -> Result<Scene<'a>, AllocError>
-        ensures tokens { IfOk result (λ scene. tokens_of scene ≡ written.entry.tokens.now) }
-        ensures written { IfOk result (λ scene. scene.written ≡ written.entry) }
-        ensures columns { IfOk result (λ scene. scene.columns.now ≡ columns.now) }
-        ensures query { IfOk result (λ scene. scene.query.now ≡ query.now) }
-        ensures level { IfOk result (λ scene. scene.level ≡ level) }
-        ensures grouped { IfOk result (λ scene. scene.is_grouped ≡ is_grouped written.entry query.now level) }
-        ensures ungrouped { IfOk result (λ scene. scene.ungrouped ≡ (if scene.is_grouped then first_ungrouped (groups_by scene) 0
-            columns.now else None)) }
+        ensures { IfOk result (λ scene. IsSceneOf written.entry columns.now query.now level scene) }
     {
         let outputs = Outputs::new(alloc, columns, query.items.as_slice())?;
         let entries = entries_of(alloc, written.tokens, written.marks, level)?;
