@@ -15,8 +15,12 @@ use wplan::{Expr, WindowFunction};
 use wrows::place_of;
 use wvalues::Value;
 
-/// How many rows a window has at least whose columns are copied, so many that a cache close to the processor does not hold them.
+/// How many rows a window has at least whose columns are copied for aggregates, so many that a cache close to the processor does not
+/// hold them.
 const ROWS: usize = 16_384;
+
+/// The same for functions that tell values of other rows. Their copies stay until the answer is printed, so they have to save more.
+const ROWS_TO_TELL: usize = 2_097_152;
 
 /// The copy of what an expression has on each row, where it is a plain column that was copied.
 pub(crate) fn near_values<'a>(expr: &Expr, near: &'a [NearColumn]) -> Option<&'a Rc<Vec<Value>>>
@@ -28,23 +32,24 @@ pub(crate) fn near_values<'a>(expr: &Expr, near: &'a [NearColumn]) -> Option<&'a
     near_column(near, place_of(expr)?)
 }
 
-// What a function reads of the rows, if it reads any value.
-fn argument_of(function: &WindowFunction) -> Option<&Expr> {
+// What a function reads of so many rows, if it reads a value whose column may be copied.
+fn argument_of(function: &WindowFunction, rows: usize) -> Option<&Expr> {
     match function {
         WindowFunction::RowNumber
         | WindowFunction::Rank
         | WindowFunction::DenseRank
         | WindowFunction::Tile(_) => None,
+        WindowFunction::Aggregated(aggregate) => Some(&aggregate.argument),
+        _ if rows < ROWS_TO_TELL => None,
         WindowFunction::Lag { value, .. } | WindowFunction::Lead { value, .. } => Some(value),
         WindowFunction::FirstValue(value) | WindowFunction::LastValue(value) => Some(value),
         WindowFunction::NthValue { value, .. } => Some(value),
-        WindowFunction::Aggregated(aggregate) => Some(&aggregate.argument),
     }
 }
 
 // The place of the column that a function reads, if it reads a plain one that was not copied yet.
-fn place_to_copy(function: &WindowFunction, near: &[NearColumn]) -> Option<usize> {
-    let argument = argument_of(function)?;
+fn place_to_copy(function: &WindowFunction, near: &[NearColumn], rows: usize) -> Option<usize> {
+    let argument = argument_of(function, rows)?;
     match near_values(argument, near) {
         Some(_) => None,
         None => place_of(argument),
@@ -61,7 +66,7 @@ fn push_near(
     requires { All (IsNear rows.now) near.old.items }
     ensures { OnOk result (All (IsNear rows.now) near.new.items) }
 {
-    let Some(place) = place_to_copy(function, near) else {
+    let Some(place) = place_to_copy(function, near, rows.len()) else {
         return Ok(());
     };
     if let Some(column) = NearColumn::of(alloc, rows, place)? {
