@@ -2,3 +2,5 @@ pub mod Within
 pub mod Firsts
 pub mod Ungrouped
 mod Entered
+mod Asked
+mod Found

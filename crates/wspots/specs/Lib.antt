@@ -5,3 +5,4 @@ pub mod Names
 pub mod Items
 pub mod Notes
 pub mod Made
+pub mod Selects

@@ -45,11 +45,12 @@ entry_from tokens level name number (mark ∷ marks) =
 abbrev pub HasEntries : List Token → ℕ → List Mark → BTreeMap (Bor (List ℕ)) ℕ → Type 0
 HasEntries tokens level marks entries = (name : Bor (List ℕ)) → of_name entries name.now ≡ entry_from tokens level name.now 0 marks
 
--- the name of the column of a level at a mark that stands in GROUP BY
+-- a column of a level, or a function, stands at a mark in GROUP BY
 abbrev pub stands_grouped : Written → ℕ → Mark → Bool
 stands_grouped written level mark = mark.level == level && (sameb roles mark.role Identifier
     && stands_in (λ other. sameb clauses other Grouping) (slice_get written.clauses.now.standings.items mark.token))
 
+-- the name of the column that stands so, if it is one
 abbrev pub grouped_name : Written → ℕ → Mark → Option (List ℕ)
 grouped_name written level mark =
     if stands_grouped written level mark

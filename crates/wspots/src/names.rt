@@ -1,10 +1,11 @@
 //! Where in a query the name stands that breaks a rule.
 
-ghost use Rattle.std.specs.Prelude.{◌≡◌, IfOk, option_map};
+ghost use Rattle.std.specs.Prelude.{◌≡◌, ◌++◌, IfOk, OnOk, option_map};
 ghost use Rattle.wspots.specs.Scene.{tokens_of};
-ghost use Rattle.wscope.specs.Sources.{all_titled};
+ghost use Rattle.wscope.specs.Sources.{all_titled, declared_columns as columns_of_table};
 ghost use Rattle.wspots.specs.Breaches.{IsAmong, IsSpot, earlier_of};
 ghost use Rattle.wspots.specs.Made.{IsTold};
+ghost use Rattle.wspots.specs.Selects.{IsToldFrom, IsToldIn, queries_in, selects_of};
 ghost use Rattle.wspots.specs.Names.{ambiguous_name, breach_at, breach_at_token, entry_before, first_name, first_token};
 ghost use Rattle.wspots.specs.Names.{missing_column, named_from, other_source, other_table, repeated_window, unknown_window};
 ghost use Rattle.wspots.specs.Names.{first_told, told_at, windows_told, wrong_place};
@@ -25,9 +26,6 @@ use wquery::{Query, Source};
 use wrules::Rule;
 use wscope::{SourceColumn, declared_columns, has_column, output_columns, place_named};
 use wsegment::Schema;
-
-/// More SELECTs than can stand one in another.
-const MOST_QUERIES: usize = 66;
 
 /// The most items of a SELECT that breaks no rule.
 const MOST_ITEMS: usize = 64;
@@ -268,18 +266,15 @@ fn find_in(alloc: Global, scene: &Scene<'_>, rule: Rule) -> Result<Option<Spot>,
     }))
 }
 
-// The SELECTs of a query, the outermost first.
-fn selects_of<'a>(alloc: Global, query: &'a Query) -> Result<Vec<&'a Query>, AllocError> {
-    let mut selects = Vec::new(alloc);
-    let mut inner = query;
-    for _ in 0..MOST_QUERIES {
-        selects.push(inner)?;
-        match &inner.source {
-            Source::Derived { query, .. } => inner = query,
-            Source::Table { .. } => return Ok(selects),
-        }
+// Adds the SELECTs of a query, the innermost first.
+fn push_selects<'a>(selects: &mut Vec<&'a Query>, query: &'a Query) -> Result<(), AllocError>
+    ensures { OnOk result (queries_in selects.new ≡ queries_in selects.old ++ selects_of query.now) }
+{
+    if let Source::Derived { query: inner, .. } = &query.source {
+        push_selects(selects, inner)?;
     }
-    Ok(selects)
+    let pushed = selects.push(query)?;
+    Ok(pushed)
 }
 
 // The first name of a SELECT over these columns that breaks a rule.
@@ -305,11 +300,15 @@ fn find_written(
     query: &Query,
     rule: Rule,
 ) -> Result<Option<Spot>, AllocError>
-    ensures { IfOk result (λ found. IsSpot written.entry.tokens.now found) }
+    ensures told { IfOk result (λ found. IsToldFrom written.entry rule (columns_of_table written.entry.schema.now.columns)
+        (selects_of query.now) found) }
+    ensures among { IfOk result (λ found. IsSpot written.entry.tokens.now found) }
 {
-    let selects = selects_of(alloc, query)?;
+    let mut selects = Vec::new(alloc);
+    push_selects(&mut selects, query)?;
     let mut columns = declared_columns(alloc, written.schema)?;
-    for (level, select) in selects.iter().enumerate().rev() {
+    'selects: for (place, select) in selects.iter().enumerate() {
+        let level = selects.len() - 1 - place;
         let found = find_over(alloc, written, columns.as_slice(), select, level, rule)?;
         if found.is_some() {
             return Ok(found);
@@ -331,7 +330,8 @@ pub(crate) fn find_name(
     query: &Query,
     rule: Rule,
 ) -> Result<Option<Spot>, AllocError>
-    ensures { IfOk result (λ found. IsSpot tokens.now found) }
+    ensures told { IfOk result (λ found. IsToldIn schema.now tokens.now query.now rule found) }
+    ensures among { IfOk result (λ found. IsSpot tokens.now found) }
 {
     let followed = follow(alloc, tokens)?;
     let clauses = Clauses::new(alloc, tokens)?;

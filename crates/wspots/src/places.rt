@@ -1,12 +1,13 @@
 //! Where in a query's text something is wrong.
-ghost use Rattle.std.specs.Prelude.{OnOk, string_bytes};
+ghost use Rattle.std.specs.Prelude.{OnOk, Some, string_bytes};
 ghost use Rattle.wshown.specs.Shown.{MayPoint};
+ghost use Rattle.wspots.specs.Selects.{PointsAtSpot, TellsBreach};
 
 use crate::names::{Spot, find_name};
 use std::alloc::{AllocError, Global};
 use wgrammar::{Stop, follow};
 use wlexer::{Keyword, Lexeme, Token};
-use wparser::parse;
+use wparser::{ParseFault, parse};
 use wrules::Rule;
 use wsegment::Schema;
 use wshown::push_place;
@@ -105,10 +106,26 @@ fn push_spot(
     tokens: &[Token],
     spot: &Spot,
 ) -> Result<(), AllocError>
-    ensures { OnOk result (MayPoint query.now (string_bytes text.old) (string_bytes text.new)) }
+    ensures { OnOk result (PointsAtSpot query.now tokens.now (Some spot.now) (string_bytes text.old) (string_bytes text.new)) }
 {
     match tokens.get(spot.token) {
         Some(token) => push_place(alloc, text, query, token.from, spot.note.as_str()),
+        None => Ok(()),
+    }
+}
+
+// Adds the place that is found in a query, if one is.
+fn push_found(
+    alloc: Global,
+    text: &mut String,
+    query: &[u8],
+    tokens: &[Token],
+    found: &Option<Spot>,
+) -> Result<(), AllocError>
+    ensures { OnOk result (PointsAtSpot query.now tokens.now found.now (string_bytes text.old) (string_bytes text.new)) }
+{
+    match found {
+        Some(spot) => push_spot(alloc, text, query, tokens, spot),
         None => Ok(()),
     }
 }
@@ -122,14 +139,14 @@ pub fn push_breach(
     tokens: &[Token],
     rule: Rule,
 ) -> Result<(), AllocError>
-    ensures { OnOk result (MayPoint query.now (string_bytes text.old) (string_bytes text.new)) }
+    ensures place { OnOk result (MayPoint query.now (string_bytes text.old) (string_bytes text.new)) }
+    ensures told { OnOk result (TellsBreach schema.now query.now tokens.now rule (string_bytes text.old) (string_bytes text.new)) }
 {
-    let Ok(parsed) = parse(alloc, tokens) else {
-        return Ok(());
+    let parsed = match parse(alloc, tokens) {
+        Ok(parsed) => parsed,
+        Err(ParseFault::Syntax) => return Ok(()),
+        Err(ParseFault::NoMemory) => return Err(AllocError),
     };
     let found = find_name(alloc, schema, tokens, &parsed, rule)?;
-    match found {
-        Some(spot) => push_spot(alloc, text, query, tokens, &spot),
-        None => Ok(()),
-    }
+    push_found(alloc, text, query, tokens, &found)
 }
