@@ -2,7 +2,7 @@
 use Rattle.std.proofs.Common.{◌≡◌, ◌≢◌, inr, refl, ap, ◌∙◌, ℕ, zero, suc, arith, ◌≤◌, List}
 use Rattle.std.proofs.Common.{[], ◌∷◌, ◌++◌, length, take, Some, append_assoc, append-nil}
 use Rattle.wfolder.specs.Call.{Call, Locked, Checked, Found, Listed, Created, Permitted, Wrote, Synced, Moved, SyncedFolder, Removed}
-use Rattle.wfolder.specs.Call.{Began, Taken}
+use Rattle.wfolder.specs.Call.{Began, Taken, Followed}
 use Rattle.wfiles.specs.Noting.{read_on}
 use Rattle.wfiles.specs.Reading.{MayBegin, ReadsMore, read_more, read_to_end}
 
@@ -11,6 +11,7 @@ pub reads_none : (cs : List Call) → read_more [] cs ≡ cs
 reads_none [] = refl
 reads_none (Began name bytes ∷ cs) = ap (λ bs. Began name bs ∷ cs) (append-nil bytes)
 reads_none (Locked folder done ∷ cs) = refl
+reads_none (Followed path behind ∷ cs) = refl
 reads_none (Checked name access ∷ cs) = refl
 reads_none (Found name held ∷ cs) = refl
 reads_none (Listed folder names ∷ cs) = refl
@@ -29,6 +30,7 @@ goes_on : (bytes : List ℕ) (b : ℕ) (block : List ℕ) (cs : List Call) → r
 goes_on bytes b block [] = refl
 goes_on bytes b block (Began name before ∷ cs) = ap (λ bs. Began name bs ∷ cs) (append_assoc before bytes (b ∷ block))
 goes_on bytes b block (Locked folder done ∷ cs) = refl
+goes_on bytes b block (Followed path behind ∷ cs) = refl
 goes_on bytes b block (Checked name access ∷ cs) = refl
 goes_on bytes b block (Found name held ∷ cs) = refl
 goes_on bytes b block (Listed folder names ∷ cs) = refl
@@ -46,6 +48,7 @@ stops : (cs : List Call) → read_on [] cs ≡ read_to_end cs
 stops [] = refl
 stops (Began name bytes ∷ cs) = refl
 stops (Locked folder done ∷ cs) = refl
+stops (Followed path behind ∷ cs) = refl
 stops (Checked name access ∷ cs) = refl
 stops (Found name held ∷ cs) = refl
 stops (Listed folder names ∷ cs) = refl

@@ -3,7 +3,7 @@ use Rattle.std.specs.Prelude.{ℕ, Bool, List, [], ◌∷◌, ◌++◌, ◌==◌
 use Rattle.wfolder.specs.Call.{Call, Rights, Locked, Checked, Found, Listed, Created, Permitted}
 use Rattle.wfiles.specs.declared.record.CallKind.{CallKind}
 use Rattle.wfiles.specs.declared.record.CallKind.TheVariants as kinds
-use Rattle.wfolder.specs.Call.{Wrote, Synced, Moved, SyncedFolder, Removed, Began, Taken}
+use Rattle.wfolder.specs.Call.{Wrote, Synced, Moved, SyncedFolder, Removed, Began, Taken, Followed}
 
 -- the number under which a kind of call is noted
 abbrev pub call_number : CallKind → ℕ
@@ -20,6 +20,7 @@ call_number kinds.Began = 9
 call_number kinds.Listed = 10
 call_number kinds.Taken = 11
 call_number kinds.TakenClosed = 12
+call_number kinds.Followed = 13
 
 -- a call as it is noted: its number, and 1 where it was done
 abbrev pub call_of : ℕ → Bool → List ℕ → List ℕ → Call
@@ -36,6 +37,7 @@ call_of n done name bytes =
     else if n == 10 then Listed name (cond done (Some []) None)
     else if n == 11 then Taken name false
     else if n == 12 then Taken name true
+    else if n == 13 then Followed name (cond done (Some bytes) None)
     else Began name bytes
 
 -- a read of the file that the newest call began to read gave these bytes, none at its end

@@ -1,11 +1,12 @@
 //! Where a store stands, and how it is replaced there.
-ghost use Rattle.std.specs.Prelude.{◌≡◌, ◌⊎◌, ◌∷◌, true, false, IfErr, IfOk, OnErr, OnOk, option_map};
-ghost use Rattle.wfolder.specs.Call.{Checked, Locked, rights_of};
+ghost use Rattle.std.specs.Prelude.{◌≡◌, ◌⊎◌, ◌∷◌, true, false, IfErr, IfOk, OnErr, OnOk, option_map, string_bytes};
+ghost use Rattle.wfolder.specs.Call.{Checked, Followed, Locked, rights_of};
 ghost use Rattle.wfolder.specs.Calls.{HasCause, NothingFailed};
 ghost use Rattle.wfolder.specs.Model.{IsLocked};
-ghost use Rattle.wfolder.specs.Names.{IsSited};
+ghost use Rattle.wfolder.specs.Names.{IsSited, site_at};
 ghost use Rattle.wfolder.specs.Replacing.{Replaces, fault_of};
-ghost use Rattle.wfiles.specs.Place.{MissesFile, MissesLock, place_path, place_site, read_at};
+ghost use Rattle.wfiles.specs.Place.{FindsSite, FindsTarget, MissesFile, MissesLock, MissesTarget, folder_before, folder_of, name_of};
+ghost use Rattle.wfiles.specs.Place.{path_behind, place_path, place_site, read_at};
 
 use crate::files::read_if_there;
 use crate::real::RealFolder;
@@ -25,38 +26,63 @@ pub struct Place {
     folder: File,
 }
 
+// The path of a folder, by what stands before a `/`.
+fn folder_before(text: &str) -> &str
+    ensures { result.now ≡ folder_before text.now }
+{
+    if text.is_empty() { "/" } else { text }
+}
+
 // The folder that a path stands in.
-fn folder_of(path: &str) -> &str {
+fn folder_of(path: &str) -> &str
+    ensures { result.now ≡ folder_of path.now }
+{
     match path.rsplit_once('/') {
-        Some(("", _)) => "/",
-        Some((folder, _)) => folder,
+        Some((text, _)) => folder_before(text),
         None => ".",
     }
 }
 
 // The name of a path's file in that folder.
-fn name_of(path: &str) -> &str {
+fn name_of(path: &str) -> &str
+    ensures { result.now ≡ name_of path.now }
+{
     match path.rsplit_once('/') {
         Some((_, name)) => name,
         None => path,
     }
 }
 
-// The path of the file that is replaced: where it is no link, it is as it was given, so that it may be of any length and stand
-// in a folder of any name.
-fn path_behind<R: Files<File = File> + AllocGlobal>(
-    alloc: Global,
+// The path that the link under a path leads to, behind all links, if a link stands there, and notes it.
+fn follow<R: Files<File = File> + AllocGlobal>(
     system: &mut System<'_, R>,
+    calls: &mut Record,
     path: &str,
-) -> Result<String, Fault>
+) -> Result<Option<String>, Fault>
     requires { NothingFailed system.old }
+    ensures followed { IfOk result (λ behind. calls.new.calls ≡ Followed path.now (option_map string_bytes behind) ∷ calls.old.calls) }
+    ensures missed { OnErr result (calls.new.calls ≡ calls.old.calls) }
     ensures sound { OnOk result (NothingFailed system.new) }
     ensures cause { IfErr result (λ fault. HasCause fault system.new) }
 {
-    if system.is_link(path)? {
-        return system.real_path(path);
+    if !system.is_link(path)? {
+        calls.note_call(CallKind::Followed, false, path.as_bytes(), &[]);
+        return Ok(None);
     }
-    system.grown(String::from_str(alloc, path))
+    let behind = system.real_path(path)?;
+    calls.note_call(CallKind::Followed, true, path.as_bytes(), behind.as_bytes());
+    Ok(Some(behind))
+}
+
+// The path of the file that is replaced: where it is no link, it is as it was given, so that it may be of any length and stand
+// in a folder of any name.
+fn path_behind<'a>(path: &'a str, behind: &'a Option<String>) -> &'a str
+    ensures { result.now ≡ path_behind path.now (option_map string_bytes behind.now) }
+{
+    match behind {
+        Some(behind) => behind.as_str(),
+        None => path,
+    }
 }
 
 // Opens the folder under a path and takes its lock, and notes under this path whether this run has it.
@@ -101,20 +127,19 @@ fn check<R: Files<File = File> + AllocGlobal>(
     }
 }
 
-// Where the file of a path stands, if it is a plain one or none yet, and no later run would take it for what a killed one has left.
-fn target_of<R: Files<File = File> + AllocGlobal>(
+// Where the file of a path stands, in the folder that the path names, if no later run would take it for what a killed one has left.
+fn target_at<R>(
     alloc: Global,
     system: &mut System<'_, R>,
     path: &str,
+    access: Option<Access>,
 ) -> Result<Target, Fault>
     requires { NothingFailed system.old }
+    ensures site { IfOk result (λ target. target ≡ site_at (folder_of path.now) (name_of path.now) (option_map rights_of access)) }
     ensures sound { OnOk result (NothingFailed system.new) }
     ensures cause { IfErr result (λ fault. HasCause fault system.new) }
 {
-    let access = system.replaceable(path)?;
-    let found = path_behind(alloc, system, path)?;
-    let folder = folder_of(found.as_str());
-    let made = Target::new(alloc, folder, name_of(found.as_str()), access);
+    let made = Target::new(alloc, folder_of(path), name_of(path), access);
     let target = system.grown(made)?;
     match target {
         Some(target) => Ok(target),
@@ -122,10 +147,29 @@ fn target_of<R: Files<File = File> + AllocGlobal>(
     }
 }
 
+// Where the file stands that a path leads to, if it is a plain one or none yet, and no later run would take it for what a killed one
+// has left. It is noted which path it is.
+fn target_of<R: Files<File = File> + AllocGlobal>(
+    alloc: Global,
+    system: &mut System<'_, R>,
+    calls: &mut Record,
+    path: &str,
+) -> Result<Target, Fault>
+    requires { NothingFailed system.old }
+    ensures found { IfOk result (λ target. FindsTarget path.now target calls.old.calls calls.new.calls) }
+    ensures missed { OnErr result (MissesTarget path.now calls.old.calls calls.new.calls) }
+    ensures sound { OnOk result (NothingFailed system.new) }
+    ensures cause { IfErr result (λ fault. HasCause fault system.new) }
+{
+    let access = system.replaceable(path)?;
+    let behind = follow(system, calls, path)?;
+    target_at(alloc, system, path_behind(path, &behind), access)
+}
+
 impl Place {
-    /// Where the file of a path stands, with the lock of its folder. It waits until no other such program replaces a file of the
-    /// folder, for a minute at most; a folder that cannot be locked is a write fault, as is a name that new files have. At a fault
-    /// this run does not have the lock.
+    /// Where the file stands that a path leads to, behind the links to it, with the lock of its folder. It waits until no other such
+    /// program replaces a file of the folder, for a minute at most; a folder that cannot be locked is a write fault, as is a name that
+    /// new files have. At a fault this run does not have the lock.
     pub fn find<R: Files<File = File> + AllocGlobal + Clock + Eprint>(
         alloc: Global,
         system: &mut System<'_, R>,
@@ -133,13 +177,13 @@ impl Place {
         path: &str,
     ) -> Result<Place, Fault>
         requires { NothingFailed system.old }
-        ensures locked { IfOk result (λ place. calls.new.calls ≡ Locked (place_site place).folder true ∷ calls.old.calls) }
+        ensures found { IfOk result (λ place. FindsSite path.now (place_site place) calls.old.calls calls.new.calls) }
         ensures sited { IfOk result (λ place. IsSited (place_site place)) }
-        ensures missed { OnErr result (MissesLock calls.old.calls calls.new.calls) }
+        ensures missed { OnErr result (MissesLock path.now calls.old.calls calls.new.calls) }
         ensures sound { OnOk result (NothingFailed system.new) }
         ensures cause { IfErr result (λ fault. HasCause fault system.new) }
     {
-        let target = target_of(alloc, system, path)?;
+        let target = target_of(alloc, system, calls, path)?;
         match lock_folder(system, calls, target.folder()) {
             Ok(folder) => Ok(Place { target, folder }),
             Err(fault) => Err(fault),

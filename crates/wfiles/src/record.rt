@@ -37,6 +37,8 @@ pub(crate) enum CallKind {
     Taken,
     /// The same of one that is for its owner alone.
     TakenClosed,
+    /// A path is found to lead to the path that its bytes are, or to be no link.
+    Followed,
 }
 
 impl CallKind {
@@ -58,6 +60,7 @@ impl CallKind {
             CallKind::Listed => 10,
             CallKind::Taken => 11,
             CallKind::TakenClosed => 12,
+            CallKind::Followed => 13,
         }
     }
 }

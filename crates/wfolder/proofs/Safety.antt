@@ -3,7 +3,7 @@ use Rattle.std.specs.Prelude.{⊤, is_none}
 use Rattle.std.proofs.Common.{◌≡◌, ◌≢◌, ◌⊎◌, inl, inr, ⊎_elim, ℕ, Bool, true, false, List, [], ◌∷◌, ◌++◌, Option}
 use Rattle.std.proofs.Common.{None, Some, refl, sym, ◌∙◌, ap, subst, rules, option_map}
 use Rattle.wfolder.specs.Call.{Call, Rights, Locked, Checked, Found, Listed, Created, Taken, Permitted, Wrote}
-use Rattle.wfolder.specs.Call.{Synced, Moved, SyncedFolder, Removed, Began}
+use Rattle.wfolder.specs.Call.{Synced, Moved, SyncedFolder, Removed, Began, Followed}
 use Rattle.wfolder.specs.Model.{Disk, IsAmong, holds, IsLeft, Leaves, MayHold, LeadsTo, IsSameFile, IsSameName, IsSame}
 use Rattle.wfolder.specs.Model.{Creates, Writes, Syncs, Renames, SyncsFolder, Removes, IsLocked, IsOwn, Others, Runs}
 use Rattle.wfolder.specs.Replacing.{AtEachMoment, LeavesOldOrNew, ChangesOnlyOwn, IsPermitted, KeepsAccess, IsUnchanged}
@@ -116,6 +116,7 @@ locked_on : (folder : List ℕ) (cs base : List Call) → IsLocked folder base �
 locked_on folder [] base held = held
 locked_on folder (Locked at true ∷ cs) base held = inr (locked_on folder cs base held)
 locked_on folder (Locked at false ∷ cs) base held = locked_on folder cs base held
+locked_on folder (Followed path behind ∷ cs) base held = locked_on folder cs base held
 locked_on folder (Checked name access ∷ cs) base held = locked_on folder cs base held
 locked_on folder (Found name bytes ∷ cs) base held = locked_on folder cs base held
 locked_on folder (Began name bytes ∷ cs) base held = locked_on folder cs base held

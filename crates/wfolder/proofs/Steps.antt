@@ -6,7 +6,7 @@ use Rattle.std.proofs.Common.{◌<◌, get_or, length, map, take}
 use Rattle.std.proofs.lemmas.List.{map_more}
 use Rattle.std.proofs.lemmas.List.Elements.{All-nil, All-push, All-weaker}
 use Rattle.wfolder.specs.Call.{Call, Rights, Locked, Checked, Found, Listed, Created, Taken, Permitted, Wrote}
-use Rattle.wfolder.specs.Call.{Synced, Moved, SyncedFolder, Removed, Began, made_or_taken}
+use Rattle.wfolder.specs.Call.{Synced, Moved, SyncedFolder, Removed, Began, Followed, made_or_taken}
 use Rattle.wfolder.specs.Calls.{HasRefusal, HasTaken, tries}
 use Rattle.wfolder.specs.Clearing.{HasCleared, IsClearing, IsTried}
 use Rattle.wfolder.specs.Names.{IsNewBeside, IsNewName, Site, numbered_path}
@@ -47,6 +47,7 @@ all_taken : (folder : List ℕ) (cs : List Call) → HasTaken folder tries cs �
 all_taken folder [] taken = absurd taken
 all_taken folder (Taken name closed ∷ cs) taken = taken
 all_taken folder (Locked at done ∷ cs) taken = absurd taken
+all_taken folder (Followed path behind ∷ cs) taken = absurd taken
 all_taken folder (Checked name access ∷ cs) taken = absurd taken
 all_taken folder (Found name held ∷ cs) taken = absurd taken
 all_taken folder (Began name bytes ∷ cs) taken = absurd taken
@@ -131,6 +132,7 @@ misplaced {site = site} {count = count} {old = old} {new = new} is same all trie
 -- a removal that was tried before a call is tried behind it
 tried_on : (path : List ℕ) (c : Call) (cs : List Call) → IsTried path cs → IsTried path (c ∷ cs)
 tried_on path (Locked at done) cs tried = tried
+tried_on path (Followed link behind) cs tried = tried
 tried_on path (Checked name access) cs tried = tried
 tried_on path (Found name held) cs tried = tried
 tried_on path (Began name bytes) cs tried = tried

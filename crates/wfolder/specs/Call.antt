@@ -15,6 +15,8 @@ rights_of access = record { owner = access.owner; group = access.group; mode = p
 
 -- names and bytes as they were passed; a flag tells whether the call was done
 pub data Call : Type 0 where
+  -- it was looked at whether a link stands under a path, and, if one does, which path it leads to behind all links
+  Followed : List ℕ → Option (List ℕ) → Call
   -- this run opens the folder under a path and takes its lock, which it keeps
   Locked : List ℕ → Bool → Call
   -- what stands under a name was looked at, and may be replaced: a plain file with leave to write, of this owner, group and mode, or none

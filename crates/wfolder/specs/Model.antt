@@ -121,6 +121,7 @@ pub record Removes (name : List ℕ) (d e : Disk) : Type 0 where
 
 -- what a call does
 abbrev pub Does : Call → Disk → Disk → Type 0
+Does (calls.Followed path behind) d e = e ≡ d
 Does (calls.Locked folder done) d e = e ≡ d
 Does (calls.Checked name access) d e = e ≡ d
 Does (calls.Found name held) d e = (e ≡ d) × (held ≡ holds d name)

@@ -1,3 +1,4 @@
 pub mod Performed
 pub mod Streamed
 pub mod Shells
+pub mod Chosen

@@ -7,8 +7,8 @@ use Rattle.std.specs.Borrow.{Bor}
 use Rattle.wcommand.specs.declared.choice.Choice.{Choice}
 use Rattle.wcommand.specs.declared.choice.Paths.{Paths}
 use Rattle.wcommand.specs.Inputs.{input_of, paths_of}
-use Rattle.wfolder.specs.Call.{Call, Began, Found, Locked}
-use Rattle.wfiles.specs.Place.{MissesFile, read_at}
+use Rattle.wfolder.specs.Call.{Call, Began, Found}
+use Rattle.wfiles.specs.Place.{FindsSite, MissesFile, StandsBehind, lock_behind, read_at}
 use Rattle.wfiles.specs.Reading.{MayBegin, ReadsAtMost, Front, Whole}
 use Rattle.wfolder.specs.Names.{IsSited, Site}
 use Rattle.wfolder.specs.Replacing.{fault_of}
@@ -19,10 +19,10 @@ use Rattle.wact.specs.declared.acted.Acted.{Acted}
 use Rattle.wact.specs.Acts.{Acts}
 use Rattle.wact.specs.Laws.{IsTake}
 use Rattle.wstore_program.specs.Performing.{Bytes, Input, Long, IsDone, IsGivenUp, IsUndone, IsNotCarriedOut, NotPut}
-use Rattle.wstore_program.specs.Performing.{OnlyReads, Put, Puts, ReadsInput, ReadsBytes, CarriesOut, Undone, Unfound, Unread, Unready}
+use Rattle.wstore_program.specs.Performing.{OnlyReads, Put, Puts, ReadsInput, ReadsBytes, CarriesOut, Unchanged, Undone, Unfound, Unread}
 use Rattle.wstore_program.specs.Working.{store_bytes}
 use Rattle.wstore_program.specs.Performing.{IsEnded, IsFinished, NotCarriedOut, Performs, Untouched, input_path, new_store}
-use Rattle.wstore_program.specs.Performing.{ReadsFiles, read_locked}
+use Rattle.wstore_program.specs.Performing.{ReadsFiles, Unready, read_locked}
 
 -- where a call gives a fault
 pub on_err : {A E : Type 0} {P : Type 0} (r : Result A E) → P → OnErr r P
@@ -109,50 +109,67 @@ input_unread path old new (Err fault) begun = begins path old new begun
 -- ---- what becomes of the store
 
 -- the lock, which is of the folder that the site has still
-locked_still : (site : Site) (folder : List ℕ) (old locked : List Call) → site.folder ≡ folder → locked ≡ Locked folder true ∷ old
-    → locked ≡ Locked site.folder true ∷ old
-locked_still site folder old locked same l = l ∙ ap (λ at. Locked at true ∷ old) (sym same)
+locked_still : (path : List ℕ) (behind : Option (List ℕ)) (site : Site) (folder : List ℕ) (old locked : List Call) → site.folder ≡ folder
+    → locked ≡ lock_behind path behind folder true old → locked ≡ lock_behind path behind site.folder true old
+locked_still path behind site folder old locked same l = l ∙ ap (λ at. lock_behind path behind at true old) (sym same)
+
+-- the site that was found, where no other file stands since then
+stands_still : (path : List ℕ) (behind : Option (List ℕ)) (found site : Site) → site.path ≡ found.path → site.folder ≡ found.folder
+    → StandsBehind path behind found → StandsBehind path behind site
+stands_still path behind found site p f stands = record { folder_is = f ∙ stands.folder_is; path_is = p ∙ stands.path_is }
 
 -- the lock, then the reading
-pub found_locked : (site : Site) (folder : List ℕ) (held : Option (List ℕ)) (old locked read : List Call) → site.folder ≡ folder
-    → locked ≡ Locked folder true ∷ old → read ≡ read_at site held locked → read ≡ read_locked site held old
-found_locked site folder held old locked read same l r = r ∙ ap (read_at site held) (locked_still site folder old locked same l)
+found_locked : (path : List ℕ) (behind : Option (List ℕ)) (site : Site) (folder : List ℕ) (held : Option (List ℕ))
+    (old locked read : List Call) → site.folder ≡ folder → locked ≡ lock_behind path behind folder true old
+    → read ≡ read_at site held locked → read ≡ read_locked path behind site held old
+found_locked path behind site folder held old locked read same l r =
+    r ∙ ap (read_at site held) (locked_still path behind site folder old locked same l)
 
 -- a store that is not read to its end
-pub unfound : (choice : Choice) (table other : List ℕ) (site : Site) (folder : List ℕ) (fault : Fault) (old locked new : List Call)
-    → IsSited site → site.folder ≡ folder → locked ≡ Locked folder true ∷ old → MissesFile site locked new
-    → IsNotCarriedOut choice table other fault old new
-unfound choice table other site folder fault old locked new sited same l begun =
-    Unfound site sited (subst (λ cs. MissesFile site cs new) (locked_still site folder old locked same l) begun)
+pub unfound : (choice : Choice) (path table other : List ℕ) (found site : Site) (fault : Fault) (old locked new : List Call)
+    → FindsSite path found old locked → IsSited site → site.path ≡ found.path → site.folder ≡ found.folder
+    → MissesFile site locked new → IsNotCarriedOut choice path table other fault old new
+unfound choice path table other found site fault old locked new finds sited p f begun =
+    Unfound finds.0 site (stands_still path finds.0 found site p f finds.1) sited
+    (subst (λ cs. MissesFile site cs new) (locked_still path finds.0 site found.folder old locked f finds.2) begun)
+
+-- a store on which nothing more is done
+pub unchanged : (choice : Choice) (path table other : List ℕ) (found site : Site) (held : Option (List ℕ)) (fault : Fault)
+    (old locked read : List Call) → FindsSite path found old locked → IsSited site → site.path ≡ found.path
+    → site.folder ≡ found.folder → read ≡ read_at site held locked → IsNotCarriedOut choice path table other fault old read
+unchanged choice path table other found site held fault old locked read finds sited p f r =
+    Unchanged finds.0 site held (stands_still path finds.0 found site p f finds.1) sited
+    (found_locked path finds.0 site found.folder held old locked read f finds.2 r)
 
 -- a new store is put in the place of what was read
-pub put_in_place : (choice : Choice) (acted : Acted) (table : List ℕ) (store held : Option (List ℕ)) (other : List ℕ) (site : Site)
-    (folder : List ℕ) (old locked read new : List Call) → IsSited site → Acts choice table held other acted → site.folder ≡ folder
-    → locked ≡ Locked folder true ∷ old → read ≡ read_at site held locked → Puts site (new_store acted) (Ok tt) read new
-    → CarriesOut choice table store other acted old new
-put_in_place choice acted table store held other site folder old locked read new sited acts same l r puts =
-    Put site held sited acts (subst (λ cs. Puts site (new_store acted) (Ok tt) cs new)
-    (found_locked site folder held old locked read same l r) puts)
+pub put_in_place : (choice : Choice) (acted : Acted) (path table : List ℕ) (store held : Option (List ℕ)) (other : List ℕ)
+    (found site : Site) (old locked read new : List Call) → FindsSite path found old locked → IsSited site → site.path ≡ found.path
+    → site.folder ≡ found.folder → Acts choice table held other acted → read ≡ read_at site held locked
+    → Puts site (new_store acted) (Ok tt) read new → CarriesOut choice path table store other acted old new
+put_in_place choice acted path table store held other found site old locked read new finds sited p f acts r puts =
+    Put finds.0 site held (stands_still path finds.0 found site p f finds.1) sited acts
+    (subst (λ cs. Puts site (new_store acted) (Ok tt) cs new)
+    (found_locked path finds.0 site found.folder held old locked read f finds.2 r) puts)
 
 -- a new store is not put there
-pub not_put : (choice : Choice) (acted : Acted) (table : List ℕ) (held : Option (List ℕ)) (other : List ℕ) (site : Site)
-    (folder : List ℕ) (old locked read new : List Call) (why : NotReplaced) (fault : Fault) → IsSited site
-    → Acts choice table held other acted → site.folder ≡ folder → locked ≡ Locked folder true ∷ old
-    → read ≡ read_at site held locked → Puts site (new_store acted) (Err why) read new → fault ≡ fault_of why
-    → IsNotCarriedOut choice table other fault old new
-not_put choice acted table held other site folder old locked read new why fault sited acts same l r puts is =
-    NotPut held acted site why sited acts is (subst (λ cs. Puts site (new_store acted) (Err why) cs new)
-    (found_locked site folder held old locked read same l r) puts)
+pub not_put : (choice : Choice) (acted : Acted) (path table : List ℕ) (held : Option (List ℕ)) (other : List ℕ) (found site : Site)
+    (old locked read new : List Call) (why : NotReplaced) (fault : Fault) → FindsSite path found old locked → IsSited site
+    → site.path ≡ found.path → site.folder ≡ found.folder → Acts choice table held other acted → read ≡ read_at site held locked
+    → Puts site (new_store acted) (Err why) read new → fault ≡ fault_of why → IsNotCarriedOut choice path table other fault old new
+not_put choice acted path table held other found site old locked read new why fault finds sited p f acts r puts is =
+    NotPut finds.0 site held acted why (stands_still path finds.0 found site p f finds.1) sited acts is
+    (subst (λ cs. Puts site (new_store acted) (Err why) cs new)
+    (found_locked path finds.0 site found.folder held old locked read f finds.2 r) puts)
 
 none_mapped : {A B : Type 0} (f : A → B) (o : Option A) → is_some o ≡ false → option_map f o ≡ None
 none_mapped f None e = refl
 none_mapped f (Some v) e = absurd (true≢false e)
 
 -- there is no new store
-pub untouched : (choice : Choice) (acted : Acted) (table : List ℕ) (store : Option (List ℕ)) (other : List ℕ)
+pub untouched : (choice : Choice) (acted : Acted) (path table : List ℕ) (store : Option (List ℕ)) (other : List ℕ)
     (calls : List Call) → Acts choice table store other acted → is_some acted.store ≡ false
-    → CarriesOut choice table store other acted calls calls
-untouched choice acted table store other calls acts e = Untouched acts (none_mapped _ acted.store e) refl
+    → CarriesOut choice path table store other acted calls calls
+untouched choice acted path table store other calls acts e = Untouched acts (none_mapped _ acted.store e) refl
 
 -- the same bytes
 pub same_bytes : (xs ys : Option (Vec ℕ Global)) → option_eq (λ x y. pointwise nat_eq x.items y.items) xs ys ≡ true
@@ -165,11 +182,11 @@ same_bytes (Some x) (Some y) e = ap Some (same_text x.items y.items (sym e))
 -- ---- the whole
 
 -- the input is read, and then it is carried out or not
-pub ended_by : (choice : Choice) (table : List ℕ) (store : Option (List ℕ)) (other : List ℕ) (old read new : List Call)
-    (r : Result Acted Fault) → ReadsInput choice table store other old read → IsFinished choice table store other r read new
-    → IsEnded choice table store r old new
-ended_by choice table store other old read new (Err fault) input finished = NotCarriedOut other read input finished
-ended_by choice table store other old read new (Ok acted) input finished = record {
+pub ended_by : (choice : Choice) (place table : List ℕ) (store : Option (List ℕ)) (other : List ℕ) (old read new : List Call)
+    (r : Result Acted Fault) → ReadsInput choice table store other old read → IsFinished choice place table store other r read new
+    → IsEnded choice place table store r old new
+ended_by choice place table store other old read new (Err fault) input finished = NotCarriedOut other read input finished
+ended_by choice place table store other old read new (Ok acted) input finished = record {
   other = other;
   read = read;
   input = input;
@@ -177,23 +194,23 @@ ended_by choice table store other old read new (Ok acted) input finished = recor
 }
 
 -- a stream that was read whole
-pub fed_whole : (choice : Choice) (table : List ℕ) (store : Option (List ℕ)) (path stream : List ℕ)
+pub fed_whole : (choice : Choice) (place table : List ℕ) (store : Option (List ℕ)) (path stream : List ℕ)
     (old read new : List Call) (r : Result Acted Fault) → input_path choice ≡ Some path → read ≡ Found path (Some stream) ∷ old
-    → IsFinished choice table store stream r read new → IsEnded choice table store r old new
-fed_whole choice table store path stream old read new r named found finished =
-    ended_by choice table store stream old read new r (Bytes (Input path named found)) finished
+    → IsFinished choice place table store stream r read new → IsEnded choice place table store r old new
+fed_whole choice place table store path stream old read new r named found finished =
+    ended_by choice place table store stream old read new r (Bytes (Input path named found)) finished
 
 -- nothing was done yet
-pub undone_at_once : (choice : Choice) (table : List ℕ) (store : Option (List ℕ)) (fault : Fault) (calls : List Call)
-    → IsUndone choice table store fault calls calls
-undone_at_once choice table store fault calls = Unready (no_readings calls calls refl)
+pub undone_at_once : (choice : Choice) (place table : List ℕ) (store : Option (List ℕ)) (fault : Fault) (calls : List Call)
+    → IsUndone choice place table store fault calls calls
+undone_at_once choice place table store fault calls = Unready (no_readings calls calls refl)
 
 -- bytes that are lent
-pub ended_on_bytes : (choice : Choice) (table : List ℕ) (store : Option (List ℕ)) (lent other : List ℕ)
+pub ended_on_bytes : (choice : Choice) (place table : List ℕ) (store : Option (List ℕ)) (lent other : List ℕ)
     (old read new : List Call) (r : Result Acted Fault) → lent ≡ other → ReadsBytes choice other old read
-    → IsFinished choice table store lent r read new → IsEnded choice table store r old new
-ended_on_bytes choice table store lent other old read new r same input finished =
-    ended_by choice table store lent old read new r
+    → IsFinished choice place table store lent r read new → IsEnded choice place table store r old new
+ended_on_bytes choice place table store lent other old read new r same input finished =
+    ended_by choice place table store lent old read new r
     (Bytes (subst (λ (bytes : List ℕ). ReadsBytes choice bytes old read) (sym same) input)) finished
 
 -- the files that the words name are read
@@ -205,10 +222,10 @@ files_read paths table store old first read t s = record { between = first; tabl
 pub performed_by : (choice : Choice) (paths : Paths) (lent table : List ℕ) (store : Option (List ℕ))
     (old first read new : List Call) (r : Result Acted Fault) → paths_of choice ≡ Some paths → lent ≡ table
     → ReadsAtMost paths.table.now 65536 table old first → read ≡ Found paths.store.now store ∷ first
-    → IsEnded choice lent store r read new → Performs choice r old new
+    → IsEnded choice paths.store.now lent store r read new → Performs choice r old new
 performed_by choice paths lent table store old first read new (Err fault) named same t s undone =
     Undone paths table store read named (files_read paths table store old first read t s)
-    (subst (λ (bytes : List ℕ). IsUndone choice bytes store fault read new) same undone)
+    (subst (λ (bytes : List ℕ). IsUndone choice paths.store.now bytes store fault read new) same undone)
 performed_by choice paths lent table store old first read new (Ok acted) named same t s done = record {
   paths = paths;
   named = named;
@@ -216,7 +233,7 @@ performed_by choice paths lent table store old first read new (Ok acted) named s
   store = store;
   read = read;
   files = files_read paths table store old first read t s;
-  done = subst (λ (bytes : List ℕ). IsDone choice bytes store acted read new) same done;
+  done = subst (λ (bytes : List ℕ). IsDone choice paths.store.now bytes store acted read new) same done;
 }
 
 -- the table or the store is not read

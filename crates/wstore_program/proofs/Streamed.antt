@@ -114,14 +114,15 @@ fed_by work store stream (Err e) is gives = tt
 fed_by work store stream (Ok acted) is gives = gives work.choice.now is
 
 -- a table or a store that is refused
-pub refused_open : (choice : Choice) (table : List ℕ) (store : Option (List ℕ)) (text : Text) (acted : Acted)
+pub refused_open : (choice : Choice) (place table : List ℕ) (store : Option (List ℕ)) (text : Text) (acted : Acted)
     (calls : List Call) → IsFeed choice → Opens table store (opens.Refused text) → IsRefused acted (bytes_of text)
-    → IsDone choice table store acted calls calls
-refused_open choice table store text acted calls is opened told = record {
+    → IsDone choice place table store acted calls calls
+refused_open choice place table store text acted calls is opened told = record {
   other = [];
   read = calls;
   input = Nothing text is opened refl refl;
-  carried_out = untouched choice acted table store [] calls (acts_refused choice table store [] text acted opened told) (ap is_some told.2);
+  carried_out = untouched choice acted place table store [] calls (acts_refused choice table store [] text acted opened told)
+      (ap is_some told.2);
 }
 
 -- what is told of a stream that is refused stores nothing
@@ -137,41 +138,42 @@ is_told stops.Bad acted told = λ e. cc
 is_told stops.NoMemory acted told = absurd told
 
 -- what is told of it is what feeding it gives
-told_feeds : (choice : Choice) (table : List ℕ) (store : Option (List ℕ)) (node : NodeState) (d : Declaration)
+told_feeds : (choice : Choice) (place table : List ℕ) (store : Option (List ℕ)) (node : NodeState) (d : Declaration)
     (stream : List ℕ) (reason : Stop) (acted : Acted) (calls : List Call) → IsFeed choice → Opens table store (opens.Node node)
     → d ≡ node.schema → IsUndelivered d stream reason → IsRefusedSo reason acted
-    → CarriesOut choice table store stream acted calls calls
-told_feeds choice table store node d stream reason acted calls is opened same why told =
+    → CarriesOut choice place table store stream acted calls calls
+told_feeds choice place table store node d stream reason acted calls is opened same why told =
     let feeds : Feeds node.schema node.view store stream acted =
     subst (λ e. Feeds e node.view store stream acted) same (feeds_refused {E = Unit {0}} d node.view store stream reason
     (Ok acted) why told) in
-    untouched choice acted table store stream calls (acts_opened choice table store stream node acted opened is feeds)
+    untouched choice acted place table store stream calls (acts_opened choice table store stream node acted opened is feeds)
     (stores_nothing reason acted told)
 
 -- a stream that is refused
-pub refused_stream : (choice : Choice) (table : List ℕ) (store : Option (List ℕ)) (node : NodeState) (d : Declaration)
+pub refused_stream : (choice : Choice) (place table : List ℕ) (store : Option (List ℕ)) (node : NodeState) (d : Declaration)
     (path : List ℕ) (reason : Stop) (acted : Acted) (old new : List Call) → IsFeed choice → input_path choice ≡ Some path
     → Opens table store (opens.Node node) → d ≡ node.schema → IsRefusedStream d path old new reason
-    → IsRefusedSo reason acted → IsDone choice table store acted old new
-refused_stream choice table store node d path reason acted old new is named opened same (ByFront front stops read) told = record {
+    → IsRefusedSo reason acted → IsDone choice place table store acted old new
+refused_stream choice place table store node d path reason acted old new is named opened same (ByFront front stops read) told = record {
   other = front;
   read = new;
   input = Front path d reason is named read (declared_by d table store node opened same) stops (is_told reason acted told);
-  carried_out = told_feeds choice table store node d front reason acted new is opened same (stops_undelivered d front reason stops) told;
+  carried_out = told_feeds choice place table store node d front reason acted new is opened same (stops_undelivered d front reason stops)
+      told;
 }
-refused_stream choice table store node d path reason acted old new is named opened same (ByAll stream undelivered read) told = record {
+refused_stream choice place table store node d path reason acted old new is named opened same (ByAll stream missed read) told = record {
   other = stream;
   read = new;
   input = Bytes (Input path named read);
-  carried_out = told_feeds choice table store node d stream reason acted new is opened same undelivered told;
+  carried_out = told_feeds choice place table store node d stream reason acted new is opened same missed told;
 }
 
 -- as it was told, or there was no memory to tell it
-pub told_refused : (choice : Choice) (table : List ℕ) (store : Option (List ℕ)) (node : NodeState) (d : Declaration)
+pub told_refused : (choice : Choice) (place table : List ℕ) (store : Option (List ℕ)) (node : NodeState) (d : Declaration)
     (path : List ℕ) (reason : Stop) (r : Result Acted Fault) (old new : List Call) → FeedsFrom choice path
     → Opens table store (opens.Node node) → d ≡ node.schema → IsRefusedStream d path old new reason
-    → IfOk r (IsRefusedSo reason) → IsEnded choice table store r old new
-told_refused choice table store node d path reason (Err fault) old new feeds opened same why told =
+    → IfOk r (IsRefusedSo reason) → IsEnded choice place table store r old new
+told_refused choice place table store node d path reason (Err fault) old new feeds opened same why told =
     Unready (refused_reads d path old new reason why)
-told_refused choice table store node d path reason (Ok acted) old new feeds opened same why told =
-    refused_stream choice table store node d path reason acted old new feeds.0 feeds.1 opened same why told
+told_refused choice place table store node d path reason (Ok acted) old new feeds opened same why told =
+    refused_stream choice place table store node d path reason acted old new feeds.0 feeds.1 opened same why told

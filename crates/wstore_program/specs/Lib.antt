@@ -1,4 +1,5 @@
 pub mod Feeding
+pub mod Program
 pub mod Performing
 pub mod Statuses
 pub mod Shelling

@@ -5,10 +5,10 @@ use Rattle.wsegment.specs.Spelling.{ReadsDeclaration}
 use Rattle.wbatch.specs.Streams.{Stops}
 use Rattle.wbatch.specs.declared.stop.Stop.{Stop}
 use Rattle.wbatch.specs.declared.stop.Stop.TheVariants as stops
-use Rattle.wfolder.specs.Call.{Call, Began, Found, Locked}
+use Rattle.wfolder.specs.Call.{Call, Began, Found}
 use Rattle.wfolder.specs.Names.{IsSited, Site}
 use Rattle.wfolder.specs.Replacing.{Replaces, fault_of}
-use Rattle.wfiles.specs.Place.{MissesFile, MissesLock, read_at}
+use Rattle.wfiles.specs.Place.{MissesFile, MissesLock, StandsBehind, lock_behind, read_at}
 use Rattle.wfiles.specs.Reading.{ReadsAtMost}
 use Rattle.wfolder.specs.declared.fault.Fault.{Fault}
 use Rattle.wfolder.specs.declared.replacing.NotReplaced.{NotReplaced}
@@ -74,9 +74,10 @@ pub record OnlyReads (old new : List Call) : Type 0 where
 abbrev pub new_store : Acted → Option (List ℕ)
 new_store acted = option_map (λ store. store.items) acted.store
 
--- the store that stands here was looked at, and has this access, and was found to hold this, while this run held the lock of its folder
-abbrev pub read_locked : Site → Option (List ℕ) → List Call → List Call
-read_locked site held old = read_at site held (Locked site.folder true ∷ old)
+-- it was looked at which path the store's path leads to; and then the store that stands here was looked at, and has this access, and was
+-- found to hold this, while this run held the lock of its folder
+abbrev pub read_locked : List ℕ → Option (List ℕ) → Site → Option (List ℕ) → List Call → List Call
+read_locked path behind site held old = read_at site held (lock_behind path behind site.folder true old)
 
 -- where there is a new store, it is put in the place of the one that stands here
 abbrev pub Puts : Site → Option (List ℕ) → Result (Unit {0}) NotReplaced → List Call → List Call → Type 0
@@ -84,52 +85,57 @@ Puts site None result old new = (result ≡ Ok tt) × (new ≡ old)
 Puts site (Some bytes) result old new = Replaces site bytes result old new
 
 -- it is what the subcommand gives on this table and input, and on the store that was read, whose file is not touched where there is
--- no new store; or on the store that was found under the lock of the folder that it stands in, in whose place the new one is put
-pub data CarriesOut (choice : Choice) (table : List ℕ) (store : Option (List ℕ)) (other : List ℕ) (acted : Acted)
+-- no new store; or on the store that was found where the store's path leads, behind the links to it, under the lock of the folder that it
+-- stands in, and in the place of that one the new store is put
+pub data CarriesOut (choice : Choice) (path table : List ℕ) (store : Option (List ℕ)) (other : List ℕ) (acted : Acted)
     (old new : List Call) : Type 0 where
-  Untouched : Acts choice table store other acted → new_store acted ≡ None → new ≡ old → CarriesOut choice table store other acted old new
-  Put : (site : Site) (held : Option (List ℕ)) → IsSited site → Acts choice table held other acted
-      → Puts site (new_store acted) (Ok tt) (read_locked site held old) new → CarriesOut choice table store other acted old new
+  Untouched : Acts choice table store other acted → new_store acted ≡ None → new ≡ old
+      → CarriesOut choice path table store other acted old new
+  Put : (behind : Option (List ℕ)) (site : Site) (held : Option (List ℕ)) → StandsBehind path behind site → IsSited site
+      → Acts choice table held other acted → Puts site (new_store acted) (Ok tt) (read_locked path behind site held old) new
+      → CarriesOut choice path table store other acted old new
 
--- the store is not touched: the lock is not tried for, or not had; or it is had, and the store is looked at and read, or not to its
--- end, or not at all; or the new store that the subcommand gives on the bytes that were found there is not put in its place, or may not
--- stay there
-pub data IsNotCarriedOut (choice : Choice) (table other : List ℕ) (fault : Fault) (old new : List Call) : Type 0 where
-  Unlocked : MissesLock old new → IsNotCarriedOut choice table other fault old new
-  Unfound : (site : Site) → IsSited site → MissesFile site (Locked site.folder true ∷ old) new
-      → IsNotCarriedOut choice table other fault old new
-  Unchanged : (site : Site) (held : Option (List ℕ)) → IsSited site → new ≡ read_locked site held old
-      → IsNotCarriedOut choice table other fault old new
-  NotPut : (held : Option (List ℕ)) (acted : Acted) (site : Site) (why : NotReplaced) → IsSited site → Acts choice table held other acted
-      → fault ≡ fault_of why
-      → Puts site (new_store acted) (Err why) (read_locked site held old) new → IsNotCarriedOut choice table other fault old new
+-- the store is not touched: the lock is not tried for, or not had; or it is had, of the folder of the store where its path leads, and the
+-- store there is looked at and read, or not to its end, or not at all; or the new store that the subcommand gives on the bytes that were
+-- found there is not put in its place, or may not stay there
+pub data IsNotCarriedOut (choice : Choice) (path table other : List ℕ) (fault : Fault) (old new : List Call) : Type 0 where
+  Unlocked : MissesLock path old new → IsNotCarriedOut choice path table other fault old new
+  Unfound : (behind : Option (List ℕ)) (site : Site) → StandsBehind path behind site → IsSited site
+      → MissesFile site (lock_behind path behind site.folder true old) new → IsNotCarriedOut choice path table other fault old new
+  Unchanged : (behind : Option (List ℕ)) (site : Site) (held : Option (List ℕ)) → StandsBehind path behind site → IsSited site
+      → new ≡ read_locked path behind site held old → IsNotCarriedOut choice path table other fault old new
+  NotPut : (behind : Option (List ℕ)) (site : Site) (held : Option (List ℕ)) (acted : Acted) (why : NotReplaced)
+      → StandsBehind path behind site → IsSited site → Acts choice table held other acted → fault ≡ fault_of why
+      → Puts site (new_store acted) (Err why) (read_locked path behind site held old) new
+      → IsNotCarriedOut choice path table other fault old new
 
--- it is carried out, or at a fault it is not
-abbrev pub IsFinished : Choice → List ℕ → Option (List ℕ) → List ℕ → Result Acted Fault → List Call → List Call → Type 0
-IsFinished choice table store other (Ok acted) old new = CarriesOut choice table store other acted old new
-IsFinished choice table store other (Err fault) old new = IsNotCarriedOut choice table other fault old new
+-- it is carried out on the store of a path, or at a fault it is not
+abbrev pub IsFinished : Choice → List ℕ → List ℕ → Option (List ℕ) → List ℕ → Result Acted Fault → List Call → List Call → Type 0
+IsFinished choice path table store other (Ok acted) old new = CarriesOut choice path table store other acted old new
+IsFinished choice path table store other (Err fault) old new = IsNotCarriedOut choice path table other fault old new
 
 -- ---- the whole subcommand
 
 -- what is done once the table and the store are read
-pub record IsDone (choice : Choice) (table : List ℕ) (store : Option (List ℕ)) (acted : Acted) (old new : List Call) : Type 0 where
+pub record IsDone (choice : Choice) (path table : List ℕ) (store : Option (List ℕ)) (acted : Acted) (old new : List Call) : Type 0 where
   pub other : List ℕ
   pub read : List Call
   pub input : ReadsInput choice table store other old read
-  pub carried_out : CarriesOut choice table store other acted read new
+  pub carried_out : CarriesOut choice path table store other acted read new
 
 -- what is done then at a fault: the input is not read to its end, or there is no memory behind it; or the store is not replaced
-pub data IsUndone (choice : Choice) (table : List ℕ) (store : Option (List ℕ)) (fault : Fault) (old new : List Call) : Type 0 where
-  Unready : OnlyReads old new → IsUndone choice table store fault old new
+pub data IsUndone (choice : Choice) (path table : List ℕ) (store : Option (List ℕ)) (fault : Fault) (old new : List Call) : Type 0 where
+  Unready : OnlyReads old new → IsUndone choice path table store fault old new
   NotCarriedOut : (other : List ℕ) (read : List Call) → ReadsInput choice table store other old read
-      → IsNotCarriedOut choice table other fault read new → IsUndone choice table store fault old new
+      → IsNotCarriedOut choice path table other fault read new → IsUndone choice path table store fault old new
 
 -- it is done, or at a fault it is undone
-abbrev pub IsEnded : Choice → List ℕ → Option (List ℕ) → Result Acted Fault → List Call → List Call → Type 0
-IsEnded choice table store (Ok acted) old new = IsDone choice table store acted old new
-IsEnded choice table store (Err fault) old new = IsUndone choice table store fault old new
+abbrev pub IsEnded : Choice → List ℕ → List ℕ → Option (List ℕ) → Result Acted Fault → List Call → List Call → Type 0
+IsEnded choice path table store (Ok acted) old new = IsDone choice path table store acted old new
+IsEnded choice path table store (Err fault) old new = IsUndone choice path table store fault old new
 
--- it is what the subcommand gives on the bytes of the table, the store and the input that the words name, as they were read there
+-- it is what the subcommand gives on the bytes of the table, the store and the input that the words name, as they were read there; a new
+-- store is put in the place of the one that they name
 pub record IsPerformed (choice : Choice) (acted : Acted) (old new : List Call) : Type 0 where
   pub paths : Paths
   pub named : paths_of choice ≡ Some paths
@@ -137,14 +143,15 @@ pub record IsPerformed (choice : Choice) (acted : Acted) (old new : List Call) :
   pub store : Option (List ℕ)
   pub read : List Call
   pub files : ReadsFiles paths table store old read
-  pub done : IsDone choice table store acted read new
+  pub done : IsDone choice paths.store.now table store acted read new
 
 -- it is given up before the store is touched, while files are read or behind that; or the new store is not put in its place, or may
 -- not stay there
 pub data IsGivenUp (choice : Choice) (fault : Fault) (old new : List Call) : Type 0 where
   Unread : OnlyReads old new → IsGivenUp choice fault old new
   Undone : (paths : Paths) (table : List ℕ) (store : Option (List ℕ)) (read : List Call) → paths_of choice ≡ Some paths
-      → ReadsFiles paths table store old read → IsUndone choice table store fault read new → IsGivenUp choice fault old new
+      → ReadsFiles paths table store old read → IsUndone choice paths.store.now table store fault read new
+      → IsGivenUp choice fault old new
 
 -- it is performed, or at a fault it is given up
 abbrev pub Performs : Choice → Result Acted Fault → List Call → List Call → Type 0

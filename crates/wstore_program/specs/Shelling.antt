@@ -1,5 +1,5 @@
 -- The status with which a shell ends, and what it has written then.
-use Rattle.std.specs.Prelude.{◌≡◌, ℕ, Bool, true, false, List, Option, Result, Ok, Err, take, IfSome, MatchResult}
+use Rattle.std.specs.Prelude.{◌≡◌, ℕ, Bool, true, false, List, Option, Result, Ok, Err, take, IfSome}
 use Rattle.std.specs.Io.KnownBytes.{Appends, Keeps}
 use Rattle.wvalues.specs.Counts.{Counts}
 use Rattle.wreplies.specs.Texts.{bytes_of}

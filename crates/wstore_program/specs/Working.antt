@@ -62,10 +62,11 @@ abbrev pub IsCounted : {A : Type 0} → Result A Fault → CallCounts → Type 0
 IsCounted (Ok value) counts = NothingFailed counts
 IsCounted (Err fault) counts = HasCause fault counts
 
--- it is carried out with this input, or at a fault it is not
+-- it is carried out with this input, on the store that the words name, or at a fault it is not
 abbrev pub Finishes : Work → List ℕ → Result Acted Fault → List Call → List Call → Type 0
-Finishes work other result old new = IsFinished work.choice.now work.table.now (store_bytes work.store.now) other result old new
+Finishes work other result old new =
+    IsFinished work.choice.now work.paths.store.now work.table.now (store_bytes work.store.now) other result old new
 
 -- its input is read, and it is carried out; or at a fault it is not
 abbrev pub Ends : Work → Result Acted Fault → List Call → List Call → Type 0
-Ends work result old new = IsEnded work.choice.now work.table.now (store_bytes work.store.now) result old new
+Ends work result old new = IsEnded work.choice.now work.paths.store.now work.table.now (store_bytes work.store.now) result old new

@@ -4,10 +4,11 @@
 //! not understood, and 3 at a fault, whose name and reason it writes to standard error. There it also explains a refusal.
 #![tactic(auto)]
 
-ghost use Rattle.std.specs.Prelude.{◌≡◌, Some, true};
+ghost use Rattle.std.specs.Prelude.{◌≡◌, Some, map, true};
 ghost use Rattle.std.specs.Process.{exit_status};
 ghost use Rattle.wcommand.specs.Inputs.{is_act, paths_of};
 ghost use Rattle.wfolder.specs.Calls.{NothingFailed};
+ghost use Rattle.wstore_program.specs.Program.{DoesChoice, DoesWords, HasScriptStatus, IsShell};
 ghost use Rattle.wstore_program.specs.Statuses.{HasFileStatus, HasWordsStatus, IsPrinted, script_status};
 
 mod acting;
@@ -23,7 +24,7 @@ use shelling::run_shell;
 use std::alloc::{AllocError, Global};
 use std::env;
 use std::fs::File;
-use std::io::{ErrorKind, Write};
+use std::io::{ErrorKind, Read, Write};
 use std::process::ExitCode;
 use std::rt::{Clock, Files};
 use wcommand::{Choice, Paths, WordsFault, choose};
@@ -83,11 +84,30 @@ fn ended(rt: &impl Eprint, end: Result<End, RunFault>) -> ExitCode
     }
 }
 
-// Runs a script from standard input.
-fn run_session(rt: &HostRuntime) -> ExitCode {
-    let mut input = Counted::new(rt.stdin());
-    let mut output = Counted::new(rt.stdout());
-    ended(rt, run(rt.alloc(), &mut input, &mut output))
+/// What a run of the program comes to: its status, and the input and the output as it leaves them.
+#[derive(Drop)]
+struct Outcome<I, W> {
+    status: ExitCode,
+    input: I,
+    output: W,
+}
+
+// Runs a script, whose commands the input has.
+fn run_session<I: Read, W: Write>(
+    rt: &(impl AllocGlobal + Eprint),
+    input: I,
+    output: W,
+) -> Outcome<I, W>
+    ensures { HasScriptStatus I W (I.remaining input) (W.contents output) (W.contents result.output) (exit_status result.status) }
+{
+    let mut input = Counted::new(input);
+    let mut output = Counted::new(output);
+    let status = ended(rt, run(rt.alloc(), &mut input, &mut output));
+    Outcome {
+        status,
+        input: input.into_inner(),
+        output: output.into_inner(),
+    }
 }
 
 // Prints a text, with the status of what was done.
@@ -148,39 +168,81 @@ fn tell<R, W: Write>(
     }
 }
 
-// Answers the queries on standard input.
-fn answer_input(
-    rt: &HostRuntime,
-    system: &mut System<'_, HostRuntime>,
+// Answers the queries that the input has.
+fn answer_input<R: Files<File = File> + AllocGlobal + Eprint, I: Read, W: Write>(
+    rt: &R,
+    system: &mut System<'_, R>,
     calls: &mut Record,
+    input: I,
+    output: W,
     paths: Paths<'_>,
-) -> ExitCode
+) -> Outcome<I, W>
     requires { NothingFailed system.old }
+    ensures { IsShell I W paths.entry system.new calls.old.calls calls.new.calls (I.remaining input) (I.remaining result.input)
+        (W.contents output) (W.contents result.output) (exit_status result.status) }
 {
-    let mut input = Counted::new(rt.stdin());
-    let mut output = Counted::new(rt.stdout());
-    run_shell(rt, system, calls, &mut input, &mut output, paths)
+    let mut input = Counted::new(input);
+    let mut output = Counted::new(output);
+    let status = run_shell(rt, system, calls, &mut input, &mut output, paths);
+    Outcome {
+        status,
+        input: input.into_inner(),
+        output: output.into_inner(),
+    }
 }
 
-// Does what the words choose.
-fn run_words(rt: &HostRuntime, words: &[&str]) -> ExitCode {
-    let mut system = System::new(rt);
-    let mut calls = Record::new();
-    let mut output = rt.stdout();
+// Does what is chosen: a script or a shell goes on for as long as the input does, and any other subcommand leaves the input alone.
+fn run_choice<R: Files<File = File> + AllocGlobal + Clock + Eprint, I: Read, W: Write>(
+    rt: &R,
+    system: &mut System<'_, R>,
+    calls: &mut Record,
+    input: I,
+    output: W,
+    choice: &Choice<'_>,
+) -> Outcome<I, W>
+    requires { NothingFailed system.old }
+    ensures { DoesChoice I W choice.now system.new calls.old.calls calls.new.calls (I.remaining input) (I.remaining result.input)
+        (W.contents output) (W.contents result.output) (exit_status result.status) }
+{
+    match choice.paths() {
+        None => run_session(rt, input, output),
+        Some(paths) if choice.is_act() => {
+            let mut output = output;
+            let status = run_on_files(rt, system, calls, &mut output, choice, paths);
+            Outcome {
+                status,
+                input,
+                output,
+            }
+        }
+        Some(paths) => answer_input(rt, system, calls, input, output, paths),
+    }
+}
+
+// Does what the words behind the program's name ask for, with this standard input and output.
+fn run_words<R: Files<File = File> + AllocGlobal + Clock + Eprint, I: Read, W: Write>(
+    rt: &R,
+    system: &mut System<'_, R>,
+    calls: &mut Record,
+    input: I,
+    output: W,
+    words: &[&str],
+) -> Outcome<I, W>
+    requires { NothingFailed system.old }
+    ensures { DoesWords I W (map (λ word. word.now) words.now) system.new calls.old.calls calls.new.calls (I.remaining input)
+        (I.remaining result.input) (W.contents output) (W.contents result.output) (exit_status result.status) }
+{
     match choose(rt.alloc(), words) {
-        Ok(choice) => match choice.paths() {
-            None => run_session(rt),
-            Some(paths) if choice.is_act() => run_on_files(
-                rt,
-                &mut system,
-                &mut calls,
-                &mut output,
-                &choice,
-                paths,
-            ),
-            Some(paths) => answer_input(rt, &mut system, &mut calls, paths),
-        },
-        Err(fault) => tell(rt, &mut system, &mut output, fault),
+        Ok(choice) => run_choice(rt, system, calls, input, output, &choice),
+        Err(fault) => {
+            let mut output = output;
+            let status = tell(rt, system, &mut output, fault);
+            Outcome {
+                status,
+                input,
+                output,
+            }
+        }
     }
 }
 
@@ -212,5 +274,15 @@ fn main(rt: HostRuntime) -> ExitCode {
     else {
         return failed(&rt, Fault::NoMemory);
     };
-    run_words(&rt, texts.as_slice())
+    let mut system = System::new(&rt);
+    let mut calls = Record::new();
+    let outcome = run_words(
+        &rt,
+        &mut system,
+        &mut calls,
+        rt.stdin(),
+        rt.stdout(),
+        texts.as_slice(),
+    );
+    outcome.status
 }

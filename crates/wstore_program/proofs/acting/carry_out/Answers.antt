@@ -1,19 +1,26 @@
-use Rattle.wstore_program.specs.Performing.{Unchanged}
-use Rattle.wstore_program.proofs.Performed.{found_locked, not_put, put_in_place, unfound}
+use Rattle.wstore_program.proofs.Performed.{not_put, put_in_place, unchanged, unfound}
+use Rattle.wstore_program.specs.Performing.{Unlocked}
 use Rattle.wstore_program.proofs.acting.carry_out.Goals as goal
 
+pub returns-in-Err-clause-finished : goal.returns-in-Err-clause-finished
+returns-in-Err-clause-finished g c = Unlocked c.in-Err.ensures.missed
+
 pub returns-in-Err-read-clause-finished : goal.returns-in-Err-read-clause-finished
-returns-in-Err-read-clause-finished g c = unfound _ _ _ _ _ _ _ _ _ c.in-Err-read.ensures.sited c.in-Err-read.ensures.folder c.in-Ok.ensures.locked
+returns-in-Err-read-clause-finished g c =
+    unfound _ _ _ _ _ _ _ _ _ _ c.in-Ok.ensures.found c.in-Err-read.ensures.sited c.in-Err-read.ensures.path c.in-Err-read.ensures.folder
     c.in-Err-read.ensures.begun
 
 pub returns-in-Err-acted_again-clause-finished : goal.returns-in-Err-acted_again-clause-finished
 returns-in-Err-acted_again-clause-finished g c =
-    Unchanged _ _ c.in-Ok-read.ensures.sited (found_locked _ _ _ _ _ _ c.in-Ok-read.ensures.folder c.in-Ok.ensures.locked c.in-Ok-read.ensures.found)
+    unchanged _ _ _ _ _ _ _ _ _ _ _ c.in-Ok.ensures.found c.in-Ok-read.ensures.sited c.in-Ok-read.ensures.path
+    c.in-Ok-read.ensures.folder c.in-Ok-read.ensures.found
 
 pub returns-in-Ok-put-clause-finished : goal.returns-in-Ok-put-clause-finished
-returns-in-Ok-put-clause-finished g c = put_in_place _ _ _ _ _ _ _ _ _ _ _ _ c.in-Ok-read.ensures.sited c.in-Ok-acted_again.ensures.acts
-    c.in-Ok-read.ensures.folder c.in-Ok.ensures.locked c.in-Ok-read.ensures.found c.in-Ok-put.ensures.puts
+returns-in-Ok-put-clause-finished g c =
+    put_in_place _ _ _ _ _ _ _ _ _ _ _ _ _ c.in-Ok.ensures.found c.in-Ok-read.ensures.sited c.in-Ok-read.ensures.path
+    c.in-Ok-read.ensures.folder c.in-Ok-acted_again.ensures.acts c.in-Ok-read.ensures.found c.in-Ok-put.ensures.puts
 
 pub returns-clause-finished : goal.returns-clause-finished
-returns-clause-finished g c = not_put _ _ _ _ _ _ _ _ _ _ _ _ _ c.in-Ok-read.ensures.sited c.in-Ok-acted_again.ensures.acts
-    c.in-Ok-read.ensures.folder c.in-Ok.ensures.locked c.in-Ok-read.ensures.found c.in-Err-put.ensures.puts c.fault.ensures
+returns-clause-finished g c =
+    not_put _ _ _ _ _ _ _ _ _ _ _ _ _ _ c.in-Ok.ensures.found c.in-Ok-read.ensures.sited c.in-Ok-read.ensures.path
+    c.in-Ok-read.ensures.folder c.in-Ok-acted_again.ensures.acts c.in-Ok-read.ensures.found c.in-Err-put.ensures.puts c.fault.ensures

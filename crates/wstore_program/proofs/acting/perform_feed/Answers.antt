@@ -10,5 +10,5 @@ feed_from-requires-clause-feeds g c = (
 
 pub returns-in-Ok-Refused-clause-ended : goal.returns-in-Ok-Refused-clause-ended
 returns-in-Ok-Refused-clause-ended g c =
-    refused_open _ _ _ c.in-Ok-Refused.text _ _ c.requires.stream.0
+    refused_open _ _ _ _ c.in-Ok-Refused.text _ _ c.requires.stream.0
     (rw (c.in-Ok-Refused.field-0-is, c.hashed_of-hashed.ensures) at c.in-Ok-Refused.ensures.opens) c.refused-acted.ensures

@@ -11,8 +11,8 @@ finish-requires-clause-gives g c = (
 )
 
 pub returns-in-Err-grown-clause-ended : goal.returns-in-Err-grown-clause-ended
-returns-in-Err-grown-clause-ended g c = NotCarriedOut _ _ (Bytes c.in-Ok.ensures.read) (Unlocked (inl refl))
+returns-in-Err-grown-clause-ended g c = NotCarriedOut _ _ (Bytes c.in-Ok.ensures.read) (Unlocked (inl (inl refl)))
 
 pub returns-clause-ended : goal.returns-clause-ended
-returns-clause-ended g c = ended_on_bytes _ _ _ _ _ _ _ _ c.finish.result c.as_slice-other.ensures.value c.in-Ok.ensures.read
+returns-clause-ended g c = ended_on_bytes _ _ _ _ _ _ _ _ _ c.finish.result c.as_slice-other.ensures.value c.in-Ok.ensures.read
     c.finish.ensures.finished

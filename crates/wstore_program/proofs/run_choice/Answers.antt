@@ -1,0 +1,11 @@
+use Rattle.std.proofs.Common.{refl, sym}
+use Rattle.wstore_program.specs.Program.{Act, Shell}
+use Rattle.wstore_program.proofs.Chosen.{is_shell}
+use Rattle.wstore_program.proofs.run_choice.Goals as goal
+
+pub returns-in-Some : goal.returns-in-Some
+returns-in-Some g c = Act (sym c.if-is_act.ensures) refl c.run_on_files-status.ensures
+
+pub returns-in-Some-2 : goal.returns-in-Some-2
+returns-in-Some-2 g c = Shell c.in-Some.paths
+    (is_shell c.args.choice.now c.in-Some.paths (sym c.in-Some.ensures) (sym c.if-is_act.ensures)) c.answer_input.ensures

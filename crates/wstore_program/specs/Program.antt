@@ -1,0 +1,66 @@
+-- What the program does of the words behind its name, with what it has written to standard output then, and its status.
+use Rattle.std.specs.Prelude.{◌≡◌, ℕ, true, List, Option, Result, Ok, Err, IfSome}
+use Rattle.std.specs.Io.KnownBytes.{Appends}
+use Rattle.wvalues.specs.Counts.{Counts}
+use Rattle.wlines.specs.Pending.{IsSound, IsSoundWriter}
+use Rattle.wfolder.specs.Call.{Call}
+use Rattle.wfolder.specs.Calls.{CallCounts}
+use Rattle.wcommand.specs.Choices.{Chooses}
+use Rattle.wcommand.specs.Inputs.{is_act}
+use Rattle.wcommand.specs.declared.choice.Choice.{Choice}
+use Rattle.wcommand.specs.declared.choice.Choice.TheVariants as choices
+use Rattle.wcommand.specs.declared.choice.Paths.{Paths}
+use Rattle.wcommand.specs.declared.fault.WordsFault.{WordsFault}
+use Rattle.wstore.specs.Runs.{Replies, RepliesBegun}
+use Rattle.wstore.specs.Steps.{HasCause}
+use Rattle.wstore.specs.declared.script_run.End.{End}
+use Rattle.wstore.specs.declared.script_run.RunFault.{RunFault}
+use Rattle.wstore_program.specs.Shelling.{HasShellStatus}
+use Rattle.wstore_program.specs.Statuses.{HasFileStatus, HasWordsStatus, script_status}
+
+-- what a run of a script has written, where it ended so: the replies to its commands; or at a fault a beginning of them, and the
+-- fault has its cause
+abbrev pub IsScriptRun : {I W : Type 0} → Option (List ℕ) → Counts I → Option (List ℕ) → Option (List ℕ) → Counts W
+    → Result End RunFault → Type 0
+IsScriptRun left input old new output (Ok end) =
+    IfSome left (λ bytes. (written : List ℕ) × Appends old new written × Replies end bytes written)
+    × (IsSound input × IsSoundWriter output)
+IsScriptRun left input old new output (Err fault) =
+    IfSome left (λ bytes. (written : List ℕ) × Appends old new written × RepliesBegun fault input.reads bytes written)
+    × HasCause fault input output
+
+-- a script is run, which the input has and a reader reads, and the status is that of its end
+pub record HasScriptStatus (I W : Type 0) (left old new : Option (List ℕ)) (status : ℕ) : Type 0 where
+  pub input : Counts I
+  pub output : Counts W
+  pub end : Result End RunFault
+  pub ran : IsScriptRun left input old new output end
+  pub status_is : status ≡ script_status end
+
+-- a shell is run, by what was counted of its reader and its writer
+pub record IsShell (I W : Type 0) (paths : Paths) (counts : CallCounts) (before after : List Call)
+    (left new_left old new : Option (List ℕ)) (status : ℕ) : Type 0 where
+  pub input : Counts I
+  pub output : Counts W
+  pub ran : HasShellStatus paths counts before after left new_left input old new output status
+
+-- what is chosen is done: a script is run, and no file is touched; or a shell answers the queries of the input on the files that
+-- the words name; or any other subcommand is done on its files, and leaves the input alone
+pub data DoesChoice (I W : Type 0) (choice : Choice) (counts : CallCounts) (before after : List Call)
+    (left new_left old new : Option (List ℕ)) (status : ℕ) : Type 0 where
+  Session : choice ≡ choices.Session → after ≡ before → HasScriptStatus I W left old new status
+      → DoesChoice I W choice counts before after left new_left old new status
+  Shell : (paths : Paths) → choice ≡ choices.Shell paths → IsShell I W paths counts before after left new_left old new status
+      → DoesChoice I W choice counts before after left new_left old new status
+  Act : is_act choice ≡ true → new_left ≡ left → HasFileStatus choice counts before after old new status
+      → DoesChoice I W choice counts before after left new_left old new status
+
+-- what the words choose is done; or, where they choose nothing, what is wrong with them is told, or what they ask for, and neither
+-- the input nor a file is touched
+pub data DoesWords (I W : Type 0) (words : List (List ℕ)) (counts : CallCounts) (before after : List Call)
+    (left new_left old new : Option (List ℕ)) (status : ℕ) : Type 0 where
+  Chosen : (choice : Choice) → Chooses words (Ok choice) → DoesChoice I W choice counts before after left new_left old new status
+      → DoesWords I W words counts before after left new_left old new status
+  Told : (fault : WordsFault) → Chooses words (Err fault) → after ≡ before → new_left ≡ left
+      → HasWordsStatus fault counts old new status
+      → DoesWords I W words counts before after left new_left old new status
