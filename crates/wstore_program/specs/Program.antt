@@ -1,4 +1,5 @@
--- What the program does of the words behind its name, with what it has written to standard output then, and its status.
+-- What the program does of the words behind its name, with what it has written to standard output then, what was counted of that and
+-- of standard input, and its status.
 use Rattle.std.specs.Prelude.{◌≡◌, ℕ, true, List, Option, Result, Ok, Err, IfSome}
 use Rattle.std.specs.Io.KnownBytes.{Appends}
 use Rattle.wvalues.specs.Counts.{Counts}
@@ -29,38 +30,32 @@ IsScriptRun left input old new output (Err fault) =
     IfSome left (λ bytes. (written : List ℕ) × Appends old new written × RepliesBegun fault input.reads bytes written)
     × HasCause fault input output
 
--- a script is run, which the input has and a reader reads, and the status is that of its end
-pub record HasScriptStatus (I W : Type 0) (left old new : Option (List ℕ)) (status : ℕ) : Type 0 where
-  pub input : Counts I
-  pub output : Counts W
+-- a script is run, which the input has, and the status is that of its end
+pub record HasScriptStatus {I W : Type 0} (left : Option (List ℕ)) (input : Counts I) (old new : Option (List ℕ))
+    (output : Counts W) (status : ℕ) : Type 0 where
   pub end : Result End RunFault
   pub ran : IsScriptRun left input old new output end
   pub status_is : status ≡ script_status end
 
--- a shell is run, by what was counted of its reader and its writer
-pub record IsShell (I W : Type 0) (paths : Paths) (counts : CallCounts) (before after : List Call)
-    (left new_left old new : Option (List ℕ)) (status : ℕ) : Type 0 where
-  pub input : Counts I
-  pub output : Counts W
-  pub ran : HasShellStatus paths counts before after left new_left input old new output status
-
 -- what is chosen is done: a script is run, and no file is touched; or a shell answers the queries of the input on the files that
 -- the words name; or any other subcommand is done on its files, and leaves the input alone
-pub data DoesChoice (I W : Type 0) (choice : Choice) (counts : CallCounts) (before after : List Call)
-    (left new_left old new : Option (List ℕ)) (status : ℕ) : Type 0 where
-  Session : choice ≡ choices.Session → after ≡ before → HasScriptStatus I W left old new status
-      → DoesChoice I W choice counts before after left new_left old new status
-  Shell : (paths : Paths) → choice ≡ choices.Shell paths → IsShell I W paths counts before after left new_left old new status
-      → DoesChoice I W choice counts before after left new_left old new status
+pub data DoesChoice {I W : Type 0} (choice : Choice) (counts : CallCounts) (before after : List Call)
+    (left new_left : Option (List ℕ)) (input : Counts I) (old new : Option (List ℕ)) (output : Counts W) (status : ℕ) : Type 0 where
+  Session : choice ≡ choices.Session → after ≡ before → HasScriptStatus left input old new output status
+      → DoesChoice choice counts before after left new_left input old new output status
+  Shell : (paths : Paths) → choice ≡ choices.Shell paths
+      → HasShellStatus paths counts before after left new_left input old new output status
+      → DoesChoice choice counts before after left new_left input old new output status
   Act : is_act choice ≡ true → new_left ≡ left → HasFileStatus choice counts before after old new status
-      → DoesChoice I W choice counts before after left new_left old new status
+      → DoesChoice choice counts before after left new_left input old new output status
 
 -- what the words choose is done; or, where they choose nothing, what is wrong with them is told, or what they ask for, and neither
 -- the input nor a file is touched
-pub data DoesWords (I W : Type 0) (words : List (List ℕ)) (counts : CallCounts) (before after : List Call)
-    (left new_left old new : Option (List ℕ)) (status : ℕ) : Type 0 where
-  Chosen : (choice : Choice) → Chooses words (Ok choice) → DoesChoice I W choice counts before after left new_left old new status
-      → DoesWords I W words counts before after left new_left old new status
+pub data DoesWords {I W : Type 0} (words : List (List ℕ)) (counts : CallCounts) (before after : List Call)
+    (left new_left : Option (List ℕ)) (input : Counts I) (old new : Option (List ℕ)) (output : Counts W) (status : ℕ) : Type 0 where
+  Chosen : (choice : Choice) → Chooses words (Ok choice)
+      → DoesChoice choice counts before after left new_left input old new output status
+      → DoesWords words counts before after left new_left input old new output status
   Told : (fault : WordsFault) → Chooses words (Err fault) → after ≡ before → new_left ≡ left
       → HasWordsStatus fault counts old new status
-      → DoesWords I W words counts before after left new_left old new status
+      → DoesWords words counts before after left new_left input old new output status

@@ -8,7 +8,9 @@ ghost use Rattle.std.specs.Prelude.{◌≡◌, Some, map, true};
 ghost use Rattle.std.specs.Process.{exit_status};
 ghost use Rattle.wcommand.specs.Inputs.{is_act, paths_of};
 ghost use Rattle.wfolder.specs.Calls.{NothingFailed};
-ghost use Rattle.wstore_program.specs.Program.{DoesChoice, DoesWords, HasScriptStatus, IsShell};
+ghost use Rattle.wlines.specs.Pending.{IsNew};
+ghost use Rattle.wstore_program.specs.Program.{DoesChoice, DoesWords, HasScriptStatus};
+ghost use Rattle.wstore_program.specs.Shelling.{HasShellStatus};
 ghost use Rattle.wstore_program.specs.Statuses.{HasFileStatus, HasWordsStatus, IsPrinted, script_status};
 
 mod acting;
@@ -84,29 +86,33 @@ fn ended(rt: &impl Eprint, end: Result<End, RunFault>) -> ExitCode
     }
 }
 
-/// What a run of the program comes to: its status, and the input and the output as it leaves them.
+/// What a run of the program comes to: its status, and the input and the output as it leaves them, with what was counted of
+/// them.
 #[derive(Drop)]
 struct Outcome<I, W> {
     status: ExitCode,
-    input: I,
-    output: W,
+    input: Counted<I>,
+    output: Counted<W>,
 }
 
 // Runs a script, whose commands the input has.
 fn run_session<I: Read, W: Write>(
     rt: &(impl AllocGlobal + Eprint),
-    input: I,
-    output: W,
+    input: Counted<I>,
+    output: Counted<W>,
 ) -> Outcome<I, W>
-    ensures { HasScriptStatus I W (I.remaining input) (W.contents output) (W.contents result.output) (exit_status result.status) }
+    requires input { IsNew input }
+    requires output { IsNew output }
+    ensures { HasScriptStatus (I.remaining input.inner) result.input (W.contents output.inner)
+        (W.contents result.output.inner) result.output (exit_status result.status) }
 {
-    let mut input = Counted::new(input);
-    let mut output = Counted::new(output);
+    let mut input = input;
+    let mut output = output;
     let status = ended(rt, run(rt.alloc(), &mut input, &mut output));
     Outcome {
         status,
-        input: input.into_inner(),
-        output: output.into_inner(),
+        input,
+        output,
     }
 }
 
@@ -173,21 +179,24 @@ fn answer_input<R: Files<File = File> + AllocGlobal + Eprint, I: Read, W: Write>
     rt: &R,
     system: &mut System<'_, R>,
     calls: &mut Record,
-    input: I,
-    output: W,
+    input: Counted<I>,
+    output: Counted<W>,
     paths: Paths<'_>,
 ) -> Outcome<I, W>
-    requires { NothingFailed system.old }
-    ensures { IsShell I W paths.entry system.new calls.old.calls calls.new.calls (I.remaining input) (I.remaining result.input)
-        (W.contents output) (W.contents result.output) (exit_status result.status) }
+    requires sound { NothingFailed system.old }
+    requires input { IsNew input }
+    requires output { IsNew output }
+    ensures { HasShellStatus paths.entry system.new calls.old.calls calls.new.calls (I.remaining input.inner)
+        (I.remaining result.input.inner) result.input (W.contents output.inner) (W.contents result.output.inner)
+        result.output (exit_status result.status) }
 {
-    let mut input = Counted::new(input);
-    let mut output = Counted::new(output);
+    let mut input = input;
+    let mut output = output;
     let status = run_shell(rt, system, calls, &mut input, &mut output, paths);
     Outcome {
         status,
-        input: input.into_inner(),
-        output: output.into_inner(),
+        input,
+        output,
     }
 }
 
@@ -196,23 +205,26 @@ fn run_choice<R: Files<File = File> + AllocGlobal + Clock + Eprint, I: Read, W: 
     rt: &R,
     system: &mut System<'_, R>,
     calls: &mut Record,
-    input: I,
-    output: W,
+    input: Counted<I>,
+    output: Counted<W>,
     choice: &Choice<'_>,
 ) -> Outcome<I, W>
-    requires { NothingFailed system.old }
-    ensures { DoesChoice I W choice.now system.new calls.old.calls calls.new.calls (I.remaining input) (I.remaining result.input)
-        (W.contents output) (W.contents result.output) (exit_status result.status) }
+    requires sound { NothingFailed system.old }
+    requires input { IsNew input }
+    requires output { IsNew output }
+    ensures { DoesChoice choice.now system.new calls.old.calls calls.new.calls (I.remaining input.inner)
+        (I.remaining result.input.inner) result.input (W.contents output.inner) (W.contents result.output.inner)
+        result.output (exit_status result.status) }
 {
     match choice.paths() {
         None => run_session(rt, input, output),
         Some(paths) if choice.is_act() => {
-            let mut output = output;
+            let mut output = output.into_inner();
             let status = run_on_files(rt, system, calls, &mut output, choice, paths);
             Outcome {
                 status,
                 input,
-                output,
+                output: Counted::new(output),
             }
         }
         Some(paths) => answer_input(rt, system, calls, input, output, paths),
@@ -224,23 +236,26 @@ fn run_words<R: Files<File = File> + AllocGlobal + Clock + Eprint, I: Read, W: W
     rt: &R,
     system: &mut System<'_, R>,
     calls: &mut Record,
-    input: I,
-    output: W,
+    input: Counted<I>,
+    output: Counted<W>,
     words: &[&str],
 ) -> Outcome<I, W>
-    requires { NothingFailed system.old }
-    ensures { DoesWords I W (map (λ word. word.now) words.now) system.new calls.old.calls calls.new.calls (I.remaining input)
-        (I.remaining result.input) (W.contents output) (W.contents result.output) (exit_status result.status) }
+    requires sound { NothingFailed system.old }
+    requires input { IsNew input }
+    requires output { IsNew output }
+    ensures { DoesWords (map (λ word. word.now) words.now) system.new calls.old.calls calls.new.calls
+        (I.remaining input.inner) (I.remaining result.input.inner) result.input (W.contents output.inner)
+        (W.contents result.output.inner) result.output (exit_status result.status) }
 {
     match choose(rt.alloc(), words) {
         Ok(choice) => run_choice(rt, system, calls, input, output, &choice),
         Err(fault) => {
-            let mut output = output;
+            let mut output = output.into_inner();
             let status = tell(rt, system, &mut output, fault);
             Outcome {
                 status,
                 input,
-                output,
+                output: Counted::new(output),
             }
         }
     }
@@ -280,8 +295,8 @@ fn main(rt: HostRuntime) -> ExitCode {
         &rt,
         &mut system,
         &mut calls,
-        rt.stdin(),
-        rt.stdout(),
+        Counted::new(rt.stdin()),
+        Counted::new(rt.stdout()),
         texts.as_slice(),
     );
     outcome.status

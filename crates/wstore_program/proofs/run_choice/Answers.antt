@@ -4,7 +4,8 @@ use Rattle.wstore_program.proofs.Chosen.{is_shell}
 use Rattle.wstore_program.proofs.run_choice.Goals as goal
 
 pub returns-in-Some : goal.returns-in-Some
-returns-in-Some g c = Act (sym c.if-is_act.ensures) refl c.run_on_files-status.ensures
+returns-in-Some g c = Act (sym c.if-is_act.ensures) refl
+    (rw c.new.ensures (rw c.into_inner-output.ensures at c.run_on_files-status.ensures))
 
 pub returns-in-Some-2 : goal.returns-in-Some-2
 returns-in-Some-2 g c = Shell c.in-Some.paths
