@@ -4,3 +4,4 @@ pub mod Ungrouped
 mod Entered
 mod Asked
 mod Found
+mod KnownItems

@@ -21,7 +21,7 @@ use Rattle.wlexer.specs.declared.token.Token.{Token}
 use Rattle.wspots.specs.declared.names.Spot.{Spot}
 use Rattle.wspots.specs.declared.scene.Scene.{Scene}
 use Rattle.wspots.specs.declared.scene.Written.{Written}
-use Rattle.wspots.specs.Items.{of_name}
+use Rattle.wspots.specs.Items.{HasItems, of_name}
 use Rattle.wspots.specs.Names.{first_told, groups_by, holds, told_at}
 use Rattle.wspots.specs.Scene.{ColumnName, column_at, first_ungrouped, is_grouped}
 
@@ -71,6 +71,7 @@ pub record IsSceneOf (written : Written) (columns : List SourceColumn) (query : 
   pub ungrouped : scene.ungrouped ≡ (if scene.is_grouped then first_ungrouped (groups_by scene) 0 columns else None)
   pub entries : HasEntries written.tokens.now level written.marks.now scene.entries
   pub names : HasNames written level scene.grouped
+  pub items : HasItems columns query.items.items scene.outputs
 
 -- what is told first of such a SELECT that breaks a rule
 abbrev pub IsTold : Written → List SourceColumn → Query → ℕ → Rule → Option Spot → Type 0

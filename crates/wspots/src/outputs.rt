@@ -1,7 +1,11 @@
 //! The items of a SELECT by their names, `*` written out.
 
-ghost use Rattle.std.specs.Prelude.{◌≡◌};
-ghost use Rattle.wspots.specs.Items.{has_item, two_called, count_behind};
+ghost use Rattle.std.specs.Prelude.{◌≡◌, ◌||◌, List, None, Some, true, length, option_map, IfOk, OnOk, ℕ};
+ghost use Rattle.std.specs.Borrow.{Bor};
+ghost use Rattle.wquery.specs.declared.query.Item.TheVariants.{All};
+ghost use Rattle.wquery.specs.Tree.{view};
+ghost use Rattle.wspots.specs.Items.{HasItems, column_of, columns_from, count_behind, counted, differ, has_item, is_all, item_count};
+ghost use Rattle.wspots.specs.Items.{item_of, known_in, of_name, two_called, with_item, with_items, written_out};
 
 use std::alloc::{AllocError, Global};
 use std::collections::BTreeMap;
@@ -34,7 +38,9 @@ pub(crate) struct Outputs<'a> {
 }
 
 // Whether two items are different expressions. A column is its place.
-fn differ(a: &Output<'_>, b: &Output<'_>) -> bool {
+fn differ(a: &Output<'_>, b: &Output<'_>) -> bool
+    ensures { result ≡ differ (item_of a.now) (item_of b.now) }
+{
     match (a.column, b.column) {
         (Some(one), Some(other)) => one != other,
         (None, None) => match (a.expression, b.expression) {
@@ -46,7 +52,10 @@ fn differ(a: &Output<'_>, b: &Output<'_>) -> bool {
 }
 
 // The column that an expression is, by its place in the source.
-fn place_of(columns: &[SourceColumn], expression: &Expression) -> Option<usize> {
+#[tactic(auto, unfolding(wquery::specs::Tree::view))]
+fn place_of(columns: &[SourceColumn], expression: &Expression) -> Option<usize>
+    ensures { result ≡ column_of columns.now (view expression.now) }
+{
     match expression {
         Expression::Column(column) => Some(place_named(columns, column.name.as_str())),
         _ => None,
@@ -59,14 +68,16 @@ impl<'a> Outputs<'a> {
         alloc: Global,
         columns: &'a [SourceColumn],
         items: &'a [Item],
-    ) -> Result<Outputs<'a>, AllocError> {
+    ) -> Result<Outputs<'a>, AllocError>
+        ensures { IfOk result (HasItems columns.now items.now) }
+    {
         let mut outputs = Outputs {
             count: 0,
             has_all: false,
             first: BTreeMap::new(alloc),
             other: BTreeMap::new(alloc),
         };
-        for item in items {
+        'items: for item in items {
             outputs.push_item(columns, item)?;
         }
         Ok(outputs)
@@ -96,8 +107,27 @@ impl<'a> Outputs<'a> {
     }
 
     // The first item of a name.
-    fn first_called(&self, name: &str) -> Option<Output<'a>> {
+    fn first_called(&self, name: &str) -> Option<Output<'a>>
+        ensures { result ≡ of_name self.now.first name.now }
+    {
         self.first.get(name).copied()
+    }
+
+    // Notes an item of a name.
+    fn note(&mut self, name: &'a str, output: Output<'a>) -> Result<(), AllocError>
+        ensures known { OnOk result ((q : Bor (List ℕ)) → known_in self.new q.now
+            ≡ with_item q.now (known_in self.old q.now) name.now (item_of output.entry)) }
+        ensures count { self.new.count ≡ self.old.count }
+        ensures all { self.new.has_all ≡ self.old.has_all }
+    {
+        let Some(first) = self.first_called(name) else {
+            self.first.insert(name, output)?;
+            return Ok(());
+        };
+        if !self.other.contains_key(name) && differ(&first, &output) {
+            self.other.insert(name, output.place)?;
+        }
+        Ok(())
     }
 
     // Adds an item.
@@ -106,53 +136,58 @@ impl<'a> Outputs<'a> {
         name: &'a str,
         column: Option<usize>,
         expression: Option<&'a Expression>,
-    ) -> Result<(), AllocError> {
+    ) -> Result<(), AllocError>
+        ensures known { OnOk result ((q : Bor (List ℕ)) → known_in self.new q.now ≡ with_item q.now (known_in self.old q.now) name.now
+            (record { place = self.old.count; column = column; tree = option_map (λ e. view e.now) expression.entry })) }
+        ensures count { self.new.count ≡ counted self.old.count 1 }
+        ensures all { self.new.has_all ≡ self.old.has_all }
+    {
         let output = Output {
             place: self.count,
             column,
             expression,
         };
         self.count = self.count.saturating_add(1);
-        match self.first_called(name) {
-            None => {
-                self.first.insert(name, output)?;
-            }
-            Some(first) => self.push_other(name, &first, &output)?,
-        }
-        Ok(())
-    }
-
-    // Notes the first item of a name that is another expression than the first.
-    fn push_other(
-        &mut self,
-        name: &'a str,
-        first: &Output<'a>,
-        output: &Output<'a>,
-    ) -> Result<(), AllocError> {
-        if self.other.contains_key(name) || !differ(first, output) {
-            return Ok(());
-        }
-        self.other.insert(name, output.place)?;
-        Ok(())
+        self.note(name, output)
     }
 
     // Adds all columns of the source.
-    fn push_columns(&mut self, columns: &'a [SourceColumn]) -> Result<(), AllocError> {
-        if self.has_all {
-            self.count = self.count.saturating_add(columns.len());
-            return Ok(());
-        }
-        self.has_all = true;
-        for (place, column) in columns.iter().enumerate() {
+    fn push_columns(&mut self, columns: &'a [SourceColumn]) -> Result<(), AllocError>
+        ensures known { OnOk result ((q : Bor (List ℕ)) → known_in self.new q.now
+            ≡ with_items q.now (known_in self.old q.now) (columns_from self.old.count 0 columns.now)) }
+        ensures all { self.new.has_all ≡ self.old.has_all }
+    {
+        'columns: for (place, column) in columns.iter().enumerate() {
             self.push(column.name.as_str(), Some(place), None)?;
         }
         Ok(())
     }
 
+    // Adds what `*` stands for.
+    fn push_all(&mut self, columns: &'a [SourceColumn]) -> Result<(), AllocError>
+        ensures known { OnOk result ((q : Bor (List ℕ)) → known_in self.new q.now
+            ≡ with_items q.now (known_in self.old q.now) (written_out columns.now self.old.has_all self.old.count All)) }
+        ensures count { OnOk result (self.new.count ≡ counted self.old.count (length columns.now)) }
+        ensures all { OnOk result (self.new.has_all ≡ true) }
+    {
+        let count = self.count.saturating_add(columns.len());
+        if !self.has_all {
+            self.has_all = true;
+            self.push_columns(columns)?;
+        }
+        self.count = count;
+        Ok(())
+    }
+
     // Adds what an item stands for.
-    fn push_item(&mut self, columns: &'a [SourceColumn], item: &'a Item) -> Result<(), AllocError> {
+    fn push_item(&mut self, columns: &'a [SourceColumn], item: &'a Item) -> Result<(), AllocError>
+        ensures known { OnOk result ((q : Bor (List ℕ)) → known_in self.new q.now
+            ≡ with_items q.now (known_in self.old q.now) (written_out columns.now self.old.has_all self.old.count item.now)) }
+        ensures count { OnOk result (self.new.count ≡ counted self.old.count (item_count (length columns.now) item.now)) }
+        ensures all { OnOk result (self.new.has_all ≡ (self.old.has_all || is_all item.now)) }
+    {
         match item {
-            Item::All => self.push_columns(columns),
+            Item::All => self.push_all(columns),
             Item::Value { expression, alias } => self.push(
                 output_name(expression, alias),
                 place_of(columns, expression),
