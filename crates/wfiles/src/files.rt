@@ -1,6 +1,6 @@
 //! Files, read whole, or as far as they are not too long.
 ghost use Rattle.std.specs.Prelude.{◌≡◌, ◌≢◌, ◌↔◌, ◌+◌, ◌≤◌, ◌∷◌, None, Some, IfOk, IfErr, IfSome, IsTrue, OnOk, OnErr};
-ghost use Rattle.std.specs.Prelude.{[], length, map, option_map, string_bytes};
+ghost use Rattle.std.specs.Prelude.{[], ◌++◌, length, map, option_map, string_bytes};
 ghost use Rattle.std.specs.Io.KnownBytes.{Consumes, IsAtEnd};
 ghost use Rattle.wfolder.specs.Call.{Found};
 ghost use Rattle.wfolder.specs.Calls.{HasCause, NothingFailed};
@@ -21,6 +21,12 @@ use wfolder::Fault;
 /// The bytes that are read at once.
 const BLOCK: usize = 65_536;
 
+/// From how many bytes on a file is long.
+const LONG: usize = 1 << 20;
+
+/// The room that is made for a long file: so much that the C library takes it from the system by itself, and makes it longer in place.
+const ROOM: usize = 1 << 25;
+
 // Whether it is more than so many, where a number is given.
 fn is_over(most: Option<usize>, count: usize) -> bool
     ensures { IsTrue result ↔ IsOver most count }
@@ -29,6 +35,17 @@ fn is_over(most: Option<usize>, count: usize) -> bool
         Some(most) => count > most,
         None => false,
     }
+}
+
+// Adds a block, and makes room for a long file before: what its first bytes were read into, and is let go then, is small. The room is a
+// matter of memory alone.
+fn push_block(bytes: &mut Vec<u8>, block: &[u8]) -> Result<(), AllocError>
+    ensures { OnOk result (bytes.new.items ≡ bytes.old.items ++ block.now) }
+{
+    if bytes.len() >= LONG && bytes.capacity() < ROOM {
+        let _ = bytes.reserve(ROOM);
+    }
+    bytes.extend_from_slice(block)
 }
 
 // All that a reading has left; or the first of it, once that is more than so many bytes, where a number is given.
@@ -59,7 +76,7 @@ fn read_rest<R, T: Read>(
         if count == 0 {
             return Ok(bytes);
         }
-        if let Err(fault) = system.grown(bytes.extend_from_slice(&block[..count])) {
+        if let Err(fault) = system.grown(push_block(&mut bytes, &block[..count])) {
             return Err(fault);
         }
         if is_over(most, bytes.len()) {

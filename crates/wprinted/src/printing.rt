@@ -27,9 +27,9 @@ fn push_names(bytes: &mut Vec<u8>, names: &[RcStr]) -> Result<(), AllocError>
     Ok(())
 }
 
-/// How many rows are printed before room is made for all that are left: so many that much is known of their lines, and the answer
-/// is large.
-const FORESEEN_AT: usize = 262_144;
+/// How many rows are printed before room is made for all that are left: so many that much is known of their lines, and so few that what
+/// they were printed into, which is let go then, takes little memory beside the answer.
+const FORESEEN_AT: usize = 65_536;
 
 // Makes room for the lines of the rows that are left of so many, as if they were longer by a quarter than those of the rows that are
 // done, in the mean. Where they find none, or are longer, they make room as they are added. This is a matter of speed alone.

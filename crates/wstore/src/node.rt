@@ -186,11 +186,14 @@ impl Node {
         self.put_over(&Hashed::bare(&[]))
     }
 
-    /// The same, that is to stand in place of old bytes. What of their beginning stands in it too is compared, and not hashed again.
+    /// The same, that is to stand in place of old bytes. What of their beginning stands in it too is compared, and not hashed again. Room
+    /// is made for as many bytes before, which is a matter of memory alone.
     pub fn put_over(&self, old: &Hashed<'_>) -> Result<Vec<u8>, AllocError>
         ensures { IfOk result (λ bytes. bytes.items ≡ file_of self.now.schema self.now.view) }
     {
-        let mut output = Counted::new(Vec::new(self.alloc));
+        let mut room = Vec::new(self.alloc);
+        let _ = room.reserve(old.bytes().len());
+        let mut output = Counted::new(room);
         match write_over(&self.set, &mut output, old) {
             Ok(()) => Ok(output.into_inner()),
             Err(_) => Err(AllocError),
