@@ -47,37 +47,40 @@ fn argument_of(function: &WindowFunction, rows: usize) -> Option<&Expr> {
     }
 }
 
-// The place of the column that a function reads, if it reads a plain one that was not copied yet.
-fn place_to_copy(function: &WindowFunction, near: &[NearColumn], rows: usize) -> Option<usize> {
-    let argument = argument_of(function, rows)?;
-    match near_values(argument, near) {
-        Some(_) => None,
-        None => place_of(argument),
+// The place of the column that a function reads, if it reads a plain one that was not tried yet.
+fn place_to_copy(function: &WindowFunction, tried: &[usize], rows: usize) -> Option<usize> {
+    let place = place_of(argument_of(function, rows)?)?;
+    if tried.contains(&place) {
+        None
+    } else {
+        Some(place)
     }
 }
 
-// Appends a copy of the column that a function reads, if it is a plain one that was not copied yet and can be.
+// Appends a copy of the column that a function reads, if it is a plain one that was not tried yet and can be copied.
 fn push_near(
     alloc: Global,
     function: &WindowFunction,
     rows: &[&[Value]],
+    tried: &mut Vec<usize>,
     near: &mut Vec<NearColumn>,
 ) -> Result<(), AllocError>
     requires { All (IsNear rows.now) near.old.items }
     ensures { OnOk result (All (IsNear rows.now) near.new.items) }
 {
-    let Some(place) = place_to_copy(function, near, rows.len()) else {
+    let Some(place) = place_to_copy(function, tried, rows.len()) else {
         return Ok(());
     };
+    tried.push(place)?;
     if let Some(column) = NearColumn::of(alloc, rows, place)? {
         near.push(column)?;
     }
     Ok(())
 }
 
-/// Copies of the plain columns that functions of a window read, each once, where the rows are many and lie apart in its order: what
-/// is read in that order then lies in one list of 16 bytes a row, and not in each row behind a list of the rows. All of this is a
-/// matter of speed alone.
+/// Copies of the plain columns that functions of a window read, each column tried once, where the rows are many and lie apart in its
+/// order: what is read in that order then lies in one list of 16 bytes a row, and not in each row behind a list of the rows. All of
+/// this is a matter of speed alone.
 pub(crate) fn near_columns(
     alloc: Global,
     functions: &[&WindowFunction],
@@ -90,8 +93,9 @@ pub(crate) fn near_columns(
     if rows.len() < ROWS || !lie_apart(order) {
         return Ok(near);
     }
+    let mut tried = Vec::new(alloc);
     for function in functions {
-        push_near(alloc, function, rows, &mut near)?;
+        push_near(alloc, function, rows, &mut tried, &mut near)?;
     }
     Ok(near)
 }

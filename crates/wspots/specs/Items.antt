@@ -93,6 +93,7 @@ with_other (Some first) None item = (Some first, if differ first item then Some 
 abbrev pub with_item : List ℕ → Known → List ℕ → ItemTree → Known
 with_item name known own item = if bytes_eq own name then with_other known.0 known.1 item else known
 
+-- the same, with more of them, one after another
 abbrev pub with_items : List ℕ → Known → List (List ℕ × ItemTree) → Known
 with_items name known [] = known
 with_items name known (item ∷ rest) = with_items name (with_item name known item.0 item.1) rest
