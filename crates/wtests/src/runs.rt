@@ -98,57 +98,87 @@ fn of_five_runs_the_first_is_let_go(rt: HostRuntime) -> Result<(), Fail> {
     Ok(())
 }
 
-#[test]
-fn a_retirement_leaves_the_order_of_a_set_that_never_knew(rt: HostRuntime) -> Result<(), Fail> {
-    let mut set = two_segments(rt.alloc())?;
+// Two segments in order, of which the first is retired.
+fn one_retired(alloc: Global) -> Result<SegmentSet, Fail> {
+    let mut set = two_segments(alloc)?;
     set.ordered(&[by(0)])?;
     set.retire(name(1)?)?;
+    Ok(set)
+}
+
+#[test]
+fn a_retirement_leaves_the_order_of_a_set_that_never_knew(rt: HostRuntime) -> Result<(), Fail> {
+    let mut set = one_retired(rt.alloc())?;
     assert_eq!(rt; set.live_count(), 1);
     assert!(rt; all_have(&set, 0));
     let rows = set.ordered(&[by(0)])?;
     assert_eq!(rt; rows.as_slice(), [row(0, 1), row(0, 0)].as_slice());
+    Ok(())
+}
+
+#[test]
+fn a_floor_over_all_leaves_no_row(rt: HostRuntime) -> Result<(), Fail> {
+    let mut set = one_retired(rt.alloc())?;
     set.retire_to(name(2)?)?;
     assert_eq!(rt; set.live_count(), 0);
     assert!(rt; set.ordered(&[by(0)])?.is_empty());
     Ok(())
 }
 
+// Two segments, the first of which the set of two knows, with the run of another column.
+fn two_others(alloc: Global) -> Result<SegmentSet, Fail> {
+    let mut set = sales(alloc)?;
+    set.take(name(2)?, b"day,amount\n2,1\n1,1\n")?;
+    set.take(name(3)?, b"day,amount\n7,7\n")?;
+    set.ordered(&[by(1)])?;
+    Ok(set)
+}
+
+// Both sets, joined when both have runs.
+fn joined(alloc: Global) -> Result<SegmentSet, Fail> {
+    let mut set = two_segments(alloc)?;
+    set.ordered(&[by(0)])?;
+    set.join(&two_others(alloc)?)?;
+    Ok(set)
+}
+
 #[test]
 fn runs_outlive_a_join_and_a_copy(rt: HostRuntime) -> Result<(), Fail> {
-    let mut ours = two_segments(rt.alloc())?;
-    ours.ordered(&[by(0)])?;
-    let mut theirs = sales(rt.alloc())?;
-    theirs.take(name(2)?, b"day,amount\n2,1\n1,1\n")?;
-    theirs.take(name(3)?, b"day,amount\n7,7\n")?;
-    theirs.ordered(&[by(1)])?;
-    ours.join(&theirs)?;
+    let ours = joined(rt.alloc())?;
     assert_eq!(rt; ours.live_count(), 3);
-    assert!(rt; has(&ours, 0, 0));
-    assert!(rt; has(&ours, 1, 0));
+    assert!(rt; has(&ours, 0, 0) && has(&ours, 1, 0) && has(&ours, 2, 1));
     assert!(rt; !has(&ours, 1, 1));
-    assert!(rt; has(&ours, 2, 1));
     let mut copy = sales(rt.alloc())?;
     copy.join(&ours)?;
-    assert!(rt; has(&copy, 0, 0));
-    assert!(rt; has(&copy, 2, 1));
+    assert!(rt; has(&copy, 0, 0) && has(&copy, 2, 1));
     Ok(())
 }
 
-// Live names of even numbers, some that are disputed between them, and then the odd ones: blocks are cut in two.
-#[test]
-fn runs_and_numbers_outlive_blocks_that_are_cut(rt: HostRuntime) -> Result<(), Fail> {
-    let mut set = sales(rt.alloc())?;
-    for number in 1..700 {
-        set.take(name(2 * number)?, b"day,amount\n1,1\n")?;
+// Takes a segment with the same row under each of these numbers.
+fn take_each(set: &mut SegmentSet, first: u32, bytes: &[u8]) -> Result<(), Fail> {
+    for number in 0..699 {
+        set.take(name(first.saturating_add(2 * number))?, bytes)?;
     }
-    set.ordered(&[by(0)])?;
-    for number in 1..700 {
-        set.take(name(2 * number - 1)?, b"day,amount\n2,2\n")?;
-    }
+    Ok(())
+}
+
+// Retires each tenth of the even numbers, and disputes the odd one behind it.
+fn retire_some(set: &mut SegmentSet) -> Result<(), Fail> {
     for number in 1..50 {
         set.retire(name(20 * number)?)?;
         set.dispute(name(20 * number + 1)?)?;
     }
+    Ok(())
+}
+
+// Live names of even numbers, and then the odd ones between them, of which some are disputed: blocks are cut in two.
+#[test]
+fn runs_and_numbers_outlive_blocks_that_are_cut(rt: HostRuntime) -> Result<(), Fail> {
+    let mut set = sales(rt.alloc())?;
+    take_each(&mut set, 2, b"day,amount\n1,1\n")?;
+    set.ordered(&[by(0)])?;
+    take_each(&mut set, 1, b"day,amount\n2,2\n")?;
+    retire_some(&mut set)?;
     let mut live = 0;
     for (live_name, _) in set.lives() {
         assert!(rt; live < set.live_count());

@@ -40,10 +40,18 @@ fn table_of(alloc: Global, sales: &mut SegmentSet, text: &[u8]) -> Result<Table,
 }
 
 // The work of an answer is no more than this: the joins of all folds, and the orders made.
-fn compare_work(rt: &impl Abort, table: &Table, joins: usize, orders: u64) {
+fn compare_work<R: Abort + AllocGlobal>(
+    rt: &R,
+    sales: &mut SegmentSet,
+    text: &[u8],
+    joins: usize,
+    orders: u64,
+) -> Result<(), Fail> {
+    let table = table_of(rt.alloc(), sales, text)?;
     assert_eq!(rt; table.rows(), ROWS);
     assert!(rt; table.joins() <= joins as u64, "{} joins", table.joins());
     assert_eq!(rt; table.orders(), orders);
+    Ok(())
 }
 
 // A frame that slides takes at most three joins a row, one that leaves out rows eight, and one of the whole partition is
@@ -51,32 +59,28 @@ fn compare_work(rt: &impl Abort, table: &Table, joins: usize, orders: u64) {
 #[test]
 fn folds_take_few_joins_a_row(rt: HostRuntime) -> Result<(), Fail> {
     let mut sales = same_sales(rt.alloc())?;
-    let slides = table_of(
-        rt.alloc(),
-        &mut sales,
-        b"SELECT sum(amount) OVER (ORDER BY day ROWS 5 PRECEDING) FROM sales",
-    )?;
-    compare_work(&rt, &slides, 3 * ROWS, 1);
-    let leaves_out = table_of(
-        rt.alloc(),
-        &mut sales,
-        b"SELECT min(amount) OVER (ORDER BY day ROWS BETWEEN 900 PRECEDING AND 900 FOLLOWING EXCLUDE CURRENT ROW) FROM sales",
-    )?;
-    compare_work(&rt, &leaves_out, 8 * ROWS, 1);
-    let whole = table_of(
-        rt.alloc(),
-        &mut sales,
-        b"SELECT max(amount) OVER (PARTITION BY shop) FROM sales",
-    )?;
-    compare_work(&rt, &whole, ROWS, 1);
-    Ok(())
+    let slides = b"SELECT sum(amount) OVER (ORDER BY day ROWS 5 PRECEDING) FROM sales";
+    compare_work(&rt, &mut sales, slides, 3 * ROWS, 1)?;
+    let leaves_out =
+        b"SELECT min(amount) OVER (ORDER BY day ROWS BETWEEN 900 PRECEDING AND 900 FOLLOWING EXCLUDE CURRENT ROW) FROM sales";
+    compare_work(&rt, &mut sales, leaves_out, 8 * ROWS, 1)?;
+    let whole = b"SELECT max(amount) OVER (PARTITION BY shop) FROM sales";
+    compare_work(&rt, &mut sales, whole, ROWS, 1)
 }
 
 // The joins of an answer of all rows are as many as this at least, and at most.
-fn compare_joins(rt: &impl Abort, table: &Table, least: usize, most: usize) {
+fn compare_joins<R: Abort + AllocGlobal>(
+    rt: &R,
+    sales: &mut SegmentSet,
+    text: &[u8],
+    least: usize,
+    most: usize,
+) -> Result<(), Fail> {
+    let table = table_of(rt.alloc(), sales, text)?;
     assert_eq!(rt; table.rows(), ROWS);
     assert!(rt; table.joins() >= least as u64, "{} joins", table.joins());
     assert!(rt; table.joins() <= most as u64, "{} joins", table.joins());
+    Ok(())
 }
 
 // To fold rows takes at least one join less than there are rows, however it is done: all rows of the table in the first query, all
@@ -84,25 +88,13 @@ fn compare_joins(rt: &impl Abort, table: &Table, least: usize, most: usize) {
 #[test]
 fn folds_take_as_many_joins_as_they_must(rt: HostRuntime) -> Result<(), Fail> {
     let mut sales = same_sales(rt.alloc())?;
-    let whole = table_of(
-        rt.alloc(),
-        &mut sales,
-        b"SELECT max(amount) OVER () FROM sales",
-    )?;
-    compare_joins(&rt, &whole, 1999, 3 * ROWS);
-    let others = table_of(
-        rt.alloc(),
-        &mut sales,
-        b"SELECT max(amount) OVER (ROWS BETWEEN UNBOUNDED PRECEDING AND UNBOUNDED FOLLOWING EXCLUDE CURRENT ROW) FROM sales",
-    )?;
-    compare_joins(&rt, &others, 1998, 8 * ROWS);
-    let plain = table_of(
-        rt.alloc(),
-        &mut sales,
-        b"SELECT day, shop, amount FROM sales WHERE amount = 1",
-    )?;
-    compare_joins(&rt, &plain, 0, 0);
-    Ok(())
+    let whole = b"SELECT max(amount) OVER () FROM sales";
+    compare_joins(&rt, &mut sales, whole, 1999, 3 * ROWS)?;
+    let others =
+        b"SELECT max(amount) OVER (ROWS BETWEEN UNBOUNDED PRECEDING AND UNBOUNDED FOLLOWING EXCLUDE CURRENT ROW) FROM sales";
+    compare_joins(&rt, &mut sales, others, 1998, 8 * ROWS)?;
+    let plain = b"SELECT day, shop, amount FROM sales WHERE amount = 1";
+    compare_joins(&rt, &mut sales, plain, 0, 0)
 }
 
 // Windows of the same partition values and keys share one order, whatever their frames; another key makes another, and
@@ -110,19 +102,12 @@ fn folds_take_as_many_joins_as_they_must(rt: HostRuntime) -> Result<(), Fail> {
 #[test]
 fn an_order_is_made_once(rt: HostRuntime) -> Result<(), Fail> {
     let mut sales = same_sales(rt.alloc())?;
-    let shared = table_of(
-        rt.alloc(),
-        &mut sales,
-        b"SELECT rank() OVER (ORDER BY day), row_number() OVER (ORDER BY day ROWS 1 PRECEDING), lag(day) OVER w FROM sales WINDOW w AS (ORDER BY day)",
-    )?;
-    compare_work(&rt, &shared, 0, 1);
-    let two = table_of(
-        rt.alloc(),
-        &mut sales,
-        b"SELECT rank() OVER (ORDER BY day), rank() OVER (ORDER BY amount), rank() OVER (ORDER BY day) FROM sales ORDER BY shop",
-    )?;
-    compare_work(&rt, &two, 0, 3);
-    Ok(())
+    let shared =
+        b"SELECT rank() OVER (ORDER BY day), lag(day) OVER w, row_number() OVER (w ROWS 1 PRECEDING) FROM sales WINDOW w AS (ORDER BY day)";
+    compare_work(&rt, &mut sales, shared, 0, 1)?;
+    let two =
+        b"SELECT rank() OVER (ORDER BY day), rank() OVER (ORDER BY amount), rank() OVER (ORDER BY day) FROM sales ORDER BY shop";
+    compare_work(&rt, &mut sales, two, 0, 3)
 }
 
 // By a column, ascending, nulls last.
