@@ -5,12 +5,12 @@
 //! - Promises: what is added is a line of the query with a caret and a note below it, or nothing. What is found to break a rule in a
 //!   SELECT is at a token of the query, is the first that does, and is told as the definitions have it. The SELECTs are asked from
 //!   the innermost out, each over the columns of its source, as far as one of which something is told: that is what is added. Which
-//!   marks a query has, and which items a SELECT has by a name, is tested, and not proved.
+//!   item of a SELECT is the first of a name is told exactly. Which marks a query has is tested, and not proved.
 //! - Asks: the tokens of the query. Where no name tells how a rule is broken, nothing is told.
 //! - Leaves judging to `wparser` and `wrules`, following the tokens to `wgrammar`, and where they stand to `wclauses`.
 //!
-//! Read `specs/Scene.antt`, `specs/Breaches.antt`, `specs/Names.antt`, `specs/Notes.antt` and `specs/Selects.antt`, then
-//! `src/places.rt`, `src/names.rt` and `src/scene.rt`.
+//! Read `specs/Scene.antt`, `specs/Items.antt`, `specs/Breaches.antt`, `specs/Names.antt`, `specs/Notes.antt` and `specs/Selects.antt`,
+//! then `src/places.rt`, `src/names.rt` and `src/scene.rt`.
 #![tactic(auto)]
 
 mod calls;
