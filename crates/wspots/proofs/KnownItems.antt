@@ -14,7 +14,7 @@ use Rattle.wscope.specs.declared.source.SourceColumn.{SourceColumn}
 use Rattle.wspots.specs.declared.outputs.Output.{Output}
 use Rattle.wspots.specs.declared.outputs.Outputs.{Outputs}
 use Rattle.wspots.specs.Items.{ItemTree, Known, all_written_out, columns_from, count_behind, counted, differ, is_all, item_count}
-use Rattle.wspots.specs.Items.{item_of, known_in, of_name, with_item, with_items, with_other, written_out}
+use Rattle.wspots.specs.Items.{first_two, item_of, known_in, named, of_name, with_item, with_items, with_other, written_out}
 
 same_name : {X : Type 0} (name q : List ℕ) (P : List ℕ → X) (x : X) → P name ≡ x → bytes_eq name q ≡ true → P q ≡ x
 same_name name q P x e is = ap P (sym ((bytes_eq-Decides name q).0 is)) ∙ e
@@ -53,6 +53,38 @@ other_noted m others new name first v known alone differs u q =
     by true g (Some n) is none = absurd (true≢false (none refl))
     by false g o is none = refl
 
+-- the first item of a name and the place of the first other one, where both are known, where the first is, and where none is
+both_known : (name : List ℕ) (first : ItemTree) (other : ℕ) (items : List (List ℕ × ItemTree))
+    → with_items name (Some first, Some other) items ≡ (Some first, Some other)
+both_known name first other [] = refl
+both_known name first other (item ∷ rest) = by (bytes_eq item.0 name) (both_known name first other rest)
+  where
+    by : (b : Bool) → with_items name (Some first, Some other) rest ≡ (Some first, Some other)
+        → with_items name (if b then with_other (Some first) (Some other) item.1 else (Some first, Some other)) rest ≡ (Some first, Some other)
+    by true later = later
+    by false later = later
+
+first_known : (name : List ℕ) (first : ItemTree) (items : List (List ℕ × ItemTree))
+    → with_items name (Some first, None) items ≡ first_two (first ∷ named name items)
+first_known name first [] = refl
+first_known name first (item ∷ rest) = by (bytes_eq item.0 name) refl (differ first item.1) refl (first_known name first rest)
+  where
+    by : (b : Bool) → bytes_eq item.0 name ≡ b → (d : Bool) → differ first item.1 ≡ d
+        → with_items name (Some first, None) rest ≡ first_two (first ∷ named name rest)
+        → with_items name (with_item name (Some first, None) item.0 item.1) rest ≡ first_two (first ∷ named name (item ∷ rest))
+    by true is true differs later = rw (is, differs) (both_known name first item.1.place rest)
+    by true is false differs later = rw (is, differs) later
+    by false is d differs later = rw is later
+
+pub none_known : (name : List ℕ) (items : List (List ℕ × ItemTree)) → with_items name (None, None) items ≡ first_two (named name items)
+none_known name [] = refl
+none_known name (item ∷ rest) = by (bytes_eq item.0 name) refl (none_known name rest)
+  where
+    by : (b : Bool) → bytes_eq item.0 name ≡ b → with_items name (None, None) rest ≡ first_two (named name rest)
+        → with_items name (with_item name (None, None) item.0 item.1) rest ≡ first_two (named name (item ∷ rest))
+    by true is later = rw is (first_known name item.1 rest)
+    by false is later = rw is later
+
 -- some items behind others
 pub with_more : (q : List ℕ) (known : Known) (xs ys : List (List ℕ × ItemTree))
     → with_items q known (xs ++ ys) ≡ with_items q (with_items q known xs) ys
@@ -69,7 +101,7 @@ AreColumns old columns place outputs = (q : Bor (List ℕ))
 pub record AreItems (columns : List SourceColumn) (items : List Item) (i : ℕ) (outputs : Outputs) : Type 0 where
   pub known : (q : Bor (List ℕ))
       → with_items q.now (known_in outputs q.now) (all_written_out columns outputs.has_all outputs.count (drop i items))
-      ≡ with_items q.now (None, None) (all_written_out columns false 0 items)
+      ≡ first_two (named q.now (all_written_out columns false 0 items))
   pub count : count_behind (length columns) outputs.count (drop i items) ≡ count_behind (length columns) 0 items
 
 pub item_noted : (old new : Outputs) (columns : List SourceColumn) (items : List Item) (i : ℕ) (item : Item) → i < length items

@@ -1,6 +1,7 @@
 -- The items of a SELECT by their names.
 use Rattle.std.specs.Prelude.{◌≡◌, ℕ, suc, ◌+◌, ◌-◌, ◌^◌, min, Bool, true, false, not, ◌==◌, ◌||◌, List, [], ◌∷◌, ◌++◌, length}
-use Rattle.std.specs.Prelude.{Option, Some, None, is_some, option_map, if◌then◌else◌}
+use Rattle.std.specs.Prelude.{Option, Some, None, is_some, map, option_map, if◌then◌else◌}
+use Rattle.std.specs.List.{filter, find}
 use Rattle.std.specs.Borrow.{Bor}
 use Rattle.std.specs.BTreeMap.{BTreeMap, get_by}
 use Rattle.std.specs.Cmp.Lexicographic.{slice_cmp}
@@ -84,12 +85,21 @@ Known = Option ItemTree × Option ℕ
 abbrev pub known_in : Outputs → List ℕ → Known
 known_in outputs name = (option_map item_of (of_name outputs.first name), of_name outputs.other name)
 
+-- the items of a name among some with their names
+abbrev pub named : List ℕ → List (List ℕ × ItemTree) → List ItemTree
+named name items = map (λ item. item.1) (filter (λ item. bytes_eq item.0 name) items)
+
+-- the first of some items, and the place of the first behind it that is another expression
+abbrev pub first_two : List ItemTree → Known
+first_two [] = (None, None)
+first_two (first ∷ rest) = (Some first, option_map (λ item. item.place) (find (differ first) rest))
+
+-- what is known with one more item of some name
 abbrev pub with_other : Option ItemTree → Option ℕ → ItemTree → Known
 with_other None other item = (Some item, other)
 with_other (Some first) (Some other) item = (Some first, Some other)
 with_other (Some first) None item = (Some first, if differ first item then Some item.place else None)
 
--- the same, with one more item of some name
 abbrev pub with_item : List ℕ → Known → List ℕ → ItemTree → Known
 with_item name known own item = if bytes_eq own name then with_other known.0 known.1 item else known
 
@@ -140,8 +150,8 @@ all_written_out columns has_all count [] = []
 all_written_out columns has_all count (item ∷ rest) = written_out columns has_all count item
     ++ all_written_out columns (has_all || is_all item) (counted count (item_count (length columns) item)) rest
 
--- these are the items over some columns, and what is known of each name is what they say
+-- so many items stand over some columns, and of each name the first of them is known, and the first behind it that is another expression
 pub record HasItems (columns : List SourceColumn) (items : List Item) (outputs : Outputs) : Type 0 where
   pub count : outputs.count ≡ count_behind (length columns) 0 items
   pub known : (name : Bor (List ℕ)) → known_in outputs name.now
-      ≡ with_items name.now (None, None) (all_written_out columns false 0 items)
+      ≡ first_two (named name.now (all_written_out columns false 0 items))

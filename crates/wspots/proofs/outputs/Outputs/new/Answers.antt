@@ -1,5 +1,12 @@
-use Rattle.wspots.proofs.KnownItems.{item_noted}
+use Rattle.std.proofs.Common.{refl}
+use Rattle.wspots.proofs.KnownItems.{item_noted, none_known}
 use Rattle.wspots.proofs.outputs.Outputs.new.Goals as goal
+
+pub items-init : goal.items-init
+items-init c = record {
+  known = λ q. rw (c.new.ensures.empty, c.new-2.ensures.empty) (none_known q.now _);
+  count = refl;
+}
 
 pub items-preserved : goal.items-preserved
 items-preserved c = item_noted c.items.outputs c.push_item.new.self c.args.columns.now c.args.items.now c.items.item-index
