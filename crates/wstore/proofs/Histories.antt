@@ -151,7 +151,7 @@ slots_join h k n d is answers = (put_first d (is_put h k) (held h k) allowed, vi
         ap view_of (append-nil _ ∙ ap (λ o. known h n ++ drawn o (λ q. held h q)) (drawn_here n n k refl))
         ∙ view_of_union (known h n) (held h k)
 
--- ---- nodes that know the same
+-- ---- nodes of one view
 
 pub same_views : SameViews
 same_views g h m n same =
@@ -165,7 +165,7 @@ put_file : (h : List Step) (d : Declaration) (m k : ℕ) → slot_file d (record
 put_file h d m k = ap (λ o. file_if (is_put_by o (is_put h k)) d (replaced o (λ n. known h n) (held h k))) (drawn_here k k m refl)
 
 pub same_files : SameFiles
-same_files g h m n j k d same = put_file g d m j ∙ ap (file_of d) (same_views g h m n same) ∙ sym (put_file h d n k)
+same_files g h m n j k d same = put_file g d m j ∙ ap (file_of d) same ∙ sym (put_file h d n k)
 
 -- a reply that is not for lack of memory is told under the declaration in force
 told : (h : List Step) (d : Declaration) (c : Command) (r : Reply) → declaration h ≡ Some d → Answers h c r → r ≢ NoMemory
@@ -180,10 +180,10 @@ same_answers g h m n d text r s same at_g at_h by_g by_h some_r some_s =
     let one = told g d (Ask m text) r at_g by_g some_r in
     let other = told h d (Ask n text) s at_h by_h some_s in
     one.2 ∙ ap query_reply (one_answer d (view_of (known h n)) text one.0 other.0 (subst (λ v. IsAnswer d v text one.0)
-    (same_views g h m n same) one.1) other.1) ∙ sym other.2
+    same one.1) other.1) ∙ sym other.2
 
 pub same_lists : SameLists
 same_lists g h m n d r s same at_g at_h by_g by_h some_r some_s =
     told g d (Listing m) r at_g by_g some_r
-    ∙ ap (λ v. Names (map (listed d) (entries v))) (same_views g h m n same)
+    ∙ ap (λ v. Names (map (listed d) (entries v))) same
     ∙ sym (told h d (Listing n) s at_h by_h some_s)

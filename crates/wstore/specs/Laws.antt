@@ -46,24 +46,28 @@ pub record KnowTheSame (g h : List Step) (m n : ℕ) : Type 0 where
   pub to : (i : Item) → Knows g m i → Knows h n i
   pub back : (i : Item) → Knows h n i → Knows g m i
 
--- they have the same view
-abbrev pub SameViews : Type 0
-SameViews = (g h : List Step) (m n : ℕ) → KnowTheSame g h m n → view_of (known g m) ≡ view_of (known h n)
+-- they have one view
+abbrev pub HaveOneView : List Step → List Step → ℕ → ℕ → Type 0
+HaveOneView g h m n = view_of (known g m) ≡ view_of (known h n)
 
--- the files that they put are equal
+-- so have those that know the same items
+abbrev pub SameViews : Type 0
+SameViews = (g h : List Step) (m n : ℕ) → KnowTheSame g h m n → HaveOneView g h m n
+
+-- the files that nodes of one view put are equal
 abbrev pub SameFiles : Type 0
-SameFiles = (g h : List Step) (m n j k : ℕ) (d : Declaration) → KnowTheSame g h m n →
+SameFiles = (g h : List Step) (m n j k : ℕ) (d : Declaration) → HaveOneView g h m n →
     slot_file d (record { command = Put m j; reply = Done } ∷ g) j ≡ slot_file d (record { command = Put n k; reply = Done } ∷ h) k
 
 -- under one declaration they answer the same to every query, where both answer
 abbrev pub SameAnswers : Type 0
-SameAnswers = (g h : List Step) (m n : ℕ) (d : Declaration) (text : List ℕ) (r s : Reply) → KnowTheSame g h m n
+SameAnswers = (g h : List Step) (m n : ℕ) (d : Declaration) (text : List ℕ) (r s : Reply) → HaveOneView g h m n
     → declaration g ≡ Some d → declaration h ≡ Some d →
     Answers g (Ask m text) r → Answers h (Ask n text) s → r ≢ NoMemory → s ≢ NoMemory → r ≡ s
 
 -- and list the same
 abbrev pub SameLists : Type 0
-SameLists = (g h : List Step) (m n : ℕ) (d : Declaration) (r s : Reply) → KnowTheSame g h m n → declaration g ≡ Some d
+SameLists = (g h : List Step) (m n : ℕ) (d : Declaration) (r s : Reply) → HaveOneView g h m n → declaration g ≡ Some d
     → declaration h ≡ Some d →
     Answers g (Listing m) r → Answers h (Listing n) s → r ≢ NoMemory → s ≢ NoMemory → r ≡ s
 

@@ -11,8 +11,9 @@ pub fn slots_join()
     ensures { SlotsJoin }
 {}
 
-/// Two nodes that know the same, at any two moments of one script or of two with one declaration, have the
-/// same view, put equal files, list the same, and answer the same to every query, where both answer.
+/// Two nodes of one view, at any two moments of one script or of two with one declaration, put equal files, list the same, and answer
+/// the same to every query, where both answer. They have one view where they know the same items, and also where one knows more that
+/// is of no account: what a retirement or a floor covers.
 pub fn same_knowledge()
     ensures views { SameViews }
     ensures files { SameFiles }
