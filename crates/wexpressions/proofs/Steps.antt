@@ -7,8 +7,6 @@ use Rattle.wlexer.specs.declared.keyword.Keyword.TheVariants as keywords
 use Rattle.wlexer.specs.declared.token.Symbol.{Symbol}
 use Rattle.wlexer.specs.declared.token.Symbol.TheVariants as symbols
 use Rattle.wlexer.specs.declared.token.Token.{Token}
-use Rattle.wquery.specs.declared.expression.Expression.{Expression}
-use Rattle.wquery.specs.Tree.{Tree, view}
 use Rattle.wexpressions.specs.declared.fault.ParseFault.{ParseFault}
 use Rattle.wexpressions.specs.declared.fault.ParseFault.TheVariants.{NoMemory, Syntax}
 use Rattle.wtokens.specs.Words.{CommaSign, CloseSign}
@@ -16,7 +14,7 @@ use Rattle.wtokens.specs.Notation.{Tokens, Row, One, one, After, after, Then, be
 use Rattle.wtokens.specs.Notation.{Either, first, second, Room, room, Listed, last, next, As, Never, meanings}
 use Rattle.wexpressions.specs.Grammar.{Closed}
 use Rattle.wexpressions.specs.Grips.{grip, keyword_grip, symbol_grip, Stops}
-use Rattle.wexpressions.specs.Finding.{Outcome, Got, Refused, Short, failed, outcome, made, IsRead, Agrees, Answers}
+use Rattle.wexpressions.specs.Finding.{Outcome, Got, Refused, Short, failed, outcome, IsRead, Agrees, Answers}
 
 pub stops_more : {j k : ℕ} → j ≤ k → (rest : Tokens) → Stops j rest → Stops k rest
 stops_more le [] h = tt
@@ -62,13 +60,6 @@ pub got_along : {X : Type 0} {P : Row X} {k : ℕ} {ts rest rest' : Tokens} {x x
     → Answers P k ts (Got x rest) → Answers P k ts (Got x' rest')
 got_along {X} {P} {k} {ts} {rest} {rest'} {x} {x'} e q a = subst (λ (y : X). Answers P k ts (Got y rest')) (sym e)
     (subst (λ (y : Tokens). Answers P k ts (Got x y)) (sym q) a)
-
--- what a builder has made is what was read
-pub made_along : {E : Type 0} {P : Row Tree} {k : ℕ} {ts rest : Tokens} {t : Tree} {o : Outcome Tree}
-    (built : Result Expression E) → o ≡ made built rest → IfOk built (λ x. view x ≡ t) → Answers P k ts (Got t rest) → Answers P k ts o
-made_along {P = P} {k = k} {ts = ts} (Ok e) q h a = subst (λ (o : Outcome Tree). Answers P k ts o) (sym q) (got_along h refl a)
-made_along {P = P} {k = k} {ts = ts} (Err f) q h a = subst (λ (o : Outcome Tree). Answers P k ts o) (sym q)
-    (record { found = tt; only = λ y rest p h. tt })
 
 -- a fault that is handed on is the fault that was met
 pub handed_on : {A X : Type 0} {P : Row X} {k : ℕ} {ts : Tokens} (value : A → X) (left : A → List Token) (f : ParseFault)

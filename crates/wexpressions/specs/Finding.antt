@@ -3,8 +3,6 @@ use Rattle.std.specs.Prelude.{◌≡◌, ◌≢◌, ℕ, List, ◌∷◌, Option
 use Rattle.wlexer.specs.Token.{TokenMeaning, KeywordToken}
 use Rattle.wlexer.specs.declared.keyword.Keyword.TheVariants as keywords
 use Rattle.wlexer.specs.declared.token.Token.{Token}
-use Rattle.wquery.specs.declared.expression.Expression.{Expression}
-use Rattle.wquery.specs.Tree.{Tree, view}
 use Rattle.wexpressions.specs.declared.fault.ParseFault.{ParseFault}
 use Rattle.wexpressions.specs.declared.fault.ParseFault.TheVariants.{NoMemory, Syntax}
 use Rattle.wtokens.specs.Notation.{Tokens, Row, meanings}
@@ -28,11 +26,6 @@ outcome value left (Err f) = failed f
 abbrev pub got_or_refused : {A X : Type 0} → (A → X) → (A → List Token) → Option A → Outcome X
 got_or_refused value left (Some x) = Got (value x) (meanings (left x))
 got_or_refused value left None = Refused
-
--- what a builder has made, unless memory ran out
-abbrev pub made : {E : Type 0} → Result Expression E → Tokens → Outcome Tree
-made (Ok e) rest = Got (view e) rest
-made (Err f) rest = Short
 
 -- what was got is what the row reads
 abbrev pub IsRead : {X : Type 0} → Row X → Tokens → Outcome X → Type 0

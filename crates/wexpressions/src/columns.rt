@@ -12,8 +12,9 @@ use crate::frames::copied_name;
 use crate::lists::{Element, elements};
 use crate::nesting::{closed_off, one_level};
 use std::alloc::Global;
+use std::rc::RcStr;
 use wlexer::{Symbol, Token};
-use wquery::{Column, Expression, build};
+use wquery::{Arguments, Call, Column, Expression};
 use wtokens::symbol;
 
 /// One element at least, with commas between them, and the closing parenthesis; they take a level.
@@ -79,7 +80,7 @@ impl Element for GroupingColumns {
         tokens: &[Token],
     ) -> Result<(Expression, &[Token]), ParseFault> {
         let (column, rest) = Columns::read(alloc, depth, tokens)?;
-        Ok((build::column(column.qualifier, column.name), rest))
+        Ok((Expression::Column(column), rest))
     }
 }
 
@@ -95,6 +96,13 @@ pub(crate) fn grouping_call(
         return Err(ParseFault::Syntax);
     };
     let (columns, rest) = nested::<GroupingColumns>(alloc, depth, after)?;
-    let call = build::grouping(alloc, columns)?;
-    Ok((call, rest))
+    let name = made!(RcStr::from_str(alloc, "grouping"), columns);
+    let call = Call {
+        name,
+        arguments: Arguments::Columns(columns),
+        filter: None,
+        over: None,
+    };
+    let call = Box::new(alloc, call)?;
+    Ok((Expression::Call(call), rest))
 }

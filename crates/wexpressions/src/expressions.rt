@@ -13,7 +13,7 @@ ghost use Rattle.wexpressions.specs.Grammar.{optional_filter, optional_over, win
 ghost use Rattle.wexpressions.specs.Grips.{any_class, filter_class, sign_class, range_class, comparison_class, negation_class};
 ghost use Rattle.wexpressions.specs.Grips.{nulls_class, list_class, partition_class, order_class, frame_class, Stops, kind_class};
 ghost use Rattle.wexpressions.specs.Grips.{operand_class};
-ghost use Rattle.wexpressions.specs.Finding.{outcome, made, got_or_refused, Answers, IsNoTest};
+ghost use Rattle.wexpressions.specs.Finding.{outcome, got_or_refused, Answers, IsNoTest};
 
 use crate::columns::grouping_call;
 use crate::fault::ParseFault;
@@ -22,23 +22,13 @@ use crate::frames::{
 };
 use crate::lists::push;
 use crate::nesting::{closed_off, one_level};
-use std::alloc::{AllocError, Global};
+use std::alloc::Global;
 use std::rc::RcStr;
 use wlexer::{Keyword, Symbol, Token};
-use wquery::{Arguments, ChainKind, Expression, Key, Over, Window, build};
+use wquery::{Arguments, Call, ChainKind, Column, Expression, Key, Over, Window, build};
 use wtokens::{
     behind_comma, comparison_operator, keyword, leading_sign, name, number, operator, symbol, text,
 };
-
-/// What a builder has made, and what follows it.
-fn made(
-    built: Result<Expression, AllocError>,
-    rest: &[Token],
-) -> Result<(Expression, &[Token]), ParseFault>
-    ensures { outcome (λ x. view x.0) (λ x. x.1.now) result ≡ made built (meanings rest.now) }
-{
-    Ok((built?, rest))
-}
 
 #[cycle(parser)]
 fn operand(
@@ -108,7 +98,8 @@ fn negation(
     };
     one_level(depth)?;
     let (e, rest) = negation(alloc, depth - 1, after)?;
-    made(build::not(alloc, e), rest)
+    let operand = Box::new(alloc, e)?;
+    Ok((Expression::Not(operand), rest))
 }
 
 #[cycle(parser)]
@@ -134,7 +125,8 @@ fn null_tested(
         drop(e);
         return Err(ParseFault::Syntax);
     };
-    made(build::null_test(alloc, negated, e), rest)
+    let operand = Box::new(alloc, e)?;
+    Ok((Expression::IsNull { negated, operand }, rest))
 }
 
 #[cycle(parser)]
@@ -163,7 +155,14 @@ fn compared(
         return Ok((left, tokens));
     };
     let (right, rest) = got!(range(alloc, depth, after), left);
-    made(build::compared(alloc, comparison, left, right), rest)
+    let left = made!(Box::new(alloc, left), right);
+    let right = made!(Box::new(alloc, right), left);
+    let compared = Expression::Compare {
+        comparison,
+        left,
+        right,
+    };
+    Ok((compared, rest))
 }
 
 #[cycle(parser)]
@@ -241,7 +240,13 @@ fn among(
         return Err(ParseFault::Syntax);
     };
     let (list, rest) = got!(closed_list(alloc, ChainKind::Sum, depth, after), e);
-    made(build::among(alloc, negated, e, list), rest)
+    let operand = made!(Box::new(alloc, e), list);
+    let among = Expression::In {
+        negated,
+        operand,
+        list,
+    };
+    Ok((among, rest))
 }
 
 /// Two ends, behind BETWEEN.
@@ -279,7 +284,16 @@ fn up_to(
         return Err(ParseFault::Syntax);
     };
     let (high, rest) = got!(chain(alloc, ChainKind::Sum, depth, after), e, low);
-    made(build::within(alloc, negated, e, low, high), rest)
+    let operand = made!(Box::new(alloc, e), low, high);
+    let low = made!(Box::new(alloc, low), operand, high);
+    let high = made!(Box::new(alloc, high), operand, low);
+    let between = Expression::Between {
+        negated,
+        operand,
+        low,
+        high,
+    };
+    Ok((between, rest))
 }
 
 #[cycle(parser)]
@@ -291,7 +305,8 @@ fn sign(alloc: Global, depth: u32, tokens: &[Token]) -> Result<(Expression, &[To
     };
     one_level(depth)?;
     let (e, rest) = sign(alloc, depth - 1, after)?;
-    made(build::signed(alloc, minus, e), rest)
+    let operand = Box::new(alloc, e)?;
+    Ok((Expression::Sign { minus, operand }, rest))
 }
 
 #[cycle(parser)]
@@ -348,7 +363,13 @@ fn column_or_call(
         return qualified(own, after);
     }
     match symbol(tokens, Symbol::OpenParenthesis) {
-        None => Ok((build::column(None, own), tokens)),
+        None => {
+            let column = Column {
+                qualifier: None,
+                name: own,
+            };
+            Ok((Expression::Column(column), tokens))
+        }
         Some(after) => call(alloc, depth, own, after),
     }
 }
@@ -356,29 +377,35 @@ fn column_or_call(
 fn qualified(qualifier: RcStr, tokens: &[Token]) -> Result<(Expression, &[Token]), ParseFault>
     ensures { Answers (qualified (rc_str_bytes qualifier)) any_class (meanings tokens.now) (outcome (λ x. view x.0) (λ x. x.1.now) result) }
 {
-    let (column, rest) = copied_name(tokens)?;
-    Ok((build::column(Some(qualifier), column), rest))
+    let (name, rest) = copied_name(tokens)?;
+    let column = Column {
+        qualifier: Some(qualifier),
+        name,
+    };
+    Ok((Expression::Column(column), rest))
 }
 
 #[cycle(parser)]
 fn call(
     alloc: Global,
     depth: u32,
-    function: RcStr,
+    name: RcStr,
     tokens: &[Token],
 ) -> Result<(Expression, &[Token]), ParseFault>
-    ensures { Answers (call depth (inner depth) (rc_str_bytes function)) sign_class (meanings tokens.now)
+    ensures { Answers (call depth (inner depth) (rc_str_bytes name)) sign_class (meanings tokens.now)
         (outcome (λ x. view x.0) (λ x. x.1.now) result) }
 {
     let (arguments, rest) = arguments(alloc, depth, tokens)?;
-    let (filter, rest) = got!(optional_filter(alloc, depth, rest), function, arguments);
-    let (over, rest) = got!(
-        optional_over(alloc, depth, rest),
-        function,
+    let (filter, rest) = got!(optional_filter(alloc, depth, rest), name, arguments);
+    let (over, rest) = got!(optional_over(alloc, depth, rest), name, arguments, filter);
+    let call = Call {
+        name,
         arguments,
-        filter
-    );
-    made(build::call(alloc, function, arguments, filter, over), rest)
+        filter,
+        over,
+    };
+    let call = Box::new(alloc, call)?;
+    Ok((Expression::Call(call), rest))
 }
 
 #[cycle(parser)]
@@ -391,7 +418,7 @@ fn arguments(
         (outcome (λ x. view_arguments x.0) (λ x. x.1.now) result) }
 {
     if let Some(rest) = symbol(tokens, Symbol::CloseParenthesis) {
-        return Ok((build::listed(Vec::new(alloc)), rest));
+        return Ok((Arguments::Listed(Vec::new(alloc)), rest));
     }
     if let Some(after) = symbol(tokens, Symbol::Asterisk) {
         return match everything_closed(depth, after) {
@@ -400,7 +427,7 @@ fn arguments(
         };
     }
     let (list, rest) = closed_list(alloc, ChainKind::Disjunction, depth, tokens)?;
-    Ok((build::listed(list), rest))
+    Ok((Arguments::Listed(list), rest))
 }
 
 fn everything_closed(depth: u32, tokens: &[Token]) -> Option<(Arguments, &[Token])>

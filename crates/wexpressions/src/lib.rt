@@ -25,6 +25,19 @@ macro_rules! got {
     };
 }
 
+/// What was made; where memory runs out, what is held is let go before, as `got!` does.
+macro_rules! made {
+    ($made:expr, $($held:ident),+) => {
+        match $made {
+            Ok(made) => made,
+            Err(_) => {
+                $(drop($held);)+
+                return Err(ParseFault::NoMemory);
+            }
+        }
+    };
+}
+
 /// One element at least, with commas between them, each read from what is left by then. Functions that call one another
 /// are proved together, so a list that is read by one of them has this loop in a function of its own.
 macro_rules! comma_list {

@@ -1,26 +1,7 @@
 -- What the arguments of calls say, and lists that end.
-use Rattle.std.proofs.Common.{◌≡◌, ℕ, ◌-◌, leb, ◌≤◌, Bool, true, false, List, [], ◌∷◌, refl, ◌∙◌, ap, sym, drop, length, arith, length-drop}
+use Rattle.std.proofs.Common.{◌≡◌, ℕ, ◌-◌, leb, ◌≤◌, Bool, true, false, List, [], ◌∷◌, refl, ◌∙◌, sym, drop, length, arith, length-drop}
 use Rattle.std.proofs.lemmas.Bool.{le-leb, lt-leb}
-use Rattle.std.specs.declared.alloc.Global.{Global}
-use Rattle.std.specs.declared.vec.Vec.{Vec}
-use Rattle.wquery.specs.declared.expression.Arguments.TheVariants as given
-use Rattle.wquery.specs.declared.expression.Expression.{Expression}
-use Rattle.wquery.specs.declared.expression.Arguments.TheOpen as layer
-use Rattle.wquery.specs.declared.expression.Arguments.TheFolds.{fold-Arguments, fold-roll-Arguments}
-use Rattle.wquery.specs.Tree.{Tree, Given, These, Columns, Reach, KeyTree, Branch, WindowTree, trees, views}
-use Rattle.wquery.specs.Tree.{view, view_arguments, arguments_step, expression_step, over_step, call_step, key_step, link_step, window_step}
-
-pub view_of_listed : (v : Vec Expression Global) → view_arguments (given.Listed v) ≡ These (trees (views v.items))
-unfolding view_arguments view
-view_of_listed v = ap (fold-Arguments Given Tree Reach Tree KeyTree Branch WindowTree arguments_step expression_step
-    over_step call_step key_step link_step window_step) (sym (given.rolls-Listed v)) ∙ fold-roll-Arguments Given Tree Reach
-    Tree KeyTree Branch WindowTree arguments_step expression_step over_step call_step key_step link_step window_step (layer.Listed v)
-
-pub view_of_columns : (v : Vec Expression Global) → view_arguments (given.Columns v) ≡ Columns (trees (views v.items))
-unfolding view_arguments view
-view_of_columns v = ap (fold-Arguments Given Tree Reach Tree KeyTree Branch WindowTree arguments_step expression_step
-    over_step call_step key_step link_step window_step) (sym (given.rolls-Columns v)) ∙ fold-roll-Arguments Given Tree Reach
-    Tree KeyTree Branch WindowTree arguments_step expression_step over_step call_step key_step link_step window_step (layer.Columns v)
+pub use Rattle.wquery.proofs.Says.{listed_says as view_of_listed, columns_says as view_of_columns}
 
 -- lists that end
 

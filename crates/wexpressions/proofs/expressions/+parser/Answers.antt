@@ -1,13 +1,15 @@
-use Rattle.std.proofs.Common.{◌<◌, List, refl, ap, ◌∙◌, arith}
+use Rattle.std.proofs.Common.{◌≡◌, ◌<◌, List, refl, ap, ◌∙◌, arith}
 use Rattle.wexpressions.specs.declared.fault.ParseFault.TheVariants.{Syntax}
+use Rattle.wquery.specs.declared.expression.Arguments.TheVariants as given
 use Rattle.wquery.specs.declared.expression.ChainKind.TheVariants.{Disjunction}
 use Rattle.wquery.specs.declared.expression.Expression.{Expression}
-use Rattle.wquery.specs.Tree.{Tree, Quoted, These, trees, view, views, view_key, view_keys, view_window}
-use Rattle.wquery.proofs.Says.{null_says, number_says, text_says, named_says, windowed_says}
+use Rattle.wquery.specs.Tree.{Tree, Quoted, These, NoTrees, trees, view, views, view_arguments, view_key, view_keys, view_window}
+use Rattle.wquery.proofs.Says.{null_says, number_says, text_says, column_says, call_says, not_says, sign_says, compare_says}
+use Rattle.wquery.proofs.Says.{between_says, in_says, listed_says, named_says, windowed_says}
 use Rattle.wtokens.specs.Notation.{Row, Listed, meanings}
 use Rattle.wexpressions.specs.Grammar.{ChainRank, NegationRank, SignRank, deeper, window}
 use Rattle.wexpressions.specs.Finding.{Got, failed, Answers}
-use Rattle.wexpressions.proofs.Steps.{answers_less, short, grips, missing, not_said, got_along, made_along, other_token, one_parts}
+use Rattle.wexpressions.proofs.Steps.{answers_less, short, grips, missing, not_said, got_along, other_token, one_parts}
 use Rattle.wexpressions.proofs.Steps.{never_either, never_then, never_listed, any_leads, after_leads, done_leads, then_got}
 use Rattle.wexpressions.proofs.Steps.{then_refused, after_got, after_missing, after_never, as_got, as_refused, one_got, perhaps_absent}
 use Rattle.wexpressions.proofs.Steps.{perhaps_present, either_first, either_second, done_got, room_answers, closed_refused}
@@ -57,14 +59,6 @@ negation-returns-in_err-e t c = let lt : 0 < c.args.depth = c.in_ok-one_level.en
     (lower c.args.depth NegationRank (λ (R : Row Tree). Answers R 22 (meanings c.in-Some.after.now)
     (failed c.in_err-e.field-0.0)) lt c.in_err-e.ensures))))
 
-pub negation-returns : goal.negation-returns
-negation-returns t c = let lt : 0 < c.args.depth = c.in_ok-one_level.ensures.ok in
-    made_along _ c.made.ensures c.not.ensures (either_first (begins_not (tests_begin c.args.depth (deeper c.args.depth))
-    c.in-Some.ensures (omega arith))
-    (after_got c.in-Some.ensures (as_got
-    (lower c.args.depth NegationRank (λ (R : Row Tree). Answers R 22 (meanings c.in-Some.after.now)
-    (Got (view c.in_ok-e.e) (meanings c.in_ok-e.rest.now))) lt c.in_ok-e.ensures))))
-
 pub test-returns-in_err-e : goal.test-returns-in_err-e
 test-returns-in_err-e t c = handed_on _ _ _ _ c.from_residual.ensures.1 (then_refused _ (λ e. null_tested_leads) c.in_err-e.ensures)
 
@@ -85,11 +79,6 @@ pub compared-returns-in-Err : goal.compared-returns-in-Err
 compared-returns-in-Err t c = perhaps_present (one_grips comparison_grip c.in-Some.ensures)
     (then_got {j = 31} (λ x. any_leads) (one_got c.in-Some.ensures)
     (as_refused c.in-Err.fault (answers_less (omega arith) c.in-Err.ensures)))
-
-pub compared-returns : goal.compared-returns
-compared-returns t c = made_along _ c.made.ensures c.compared.ensures
-    (perhaps_present (one_grips comparison_grip c.in-Some.ensures) (then_got {j = 31} (λ x. any_leads)
-    (one_got c.in-Some.ensures) (as_got (answers_less (omega arith) c.in-Ok.ensures))))
 
 pub range-returns-in_err-e : goal.range-returns-in_err-e
 range-returns-in_err-e t c = handed_on _ _ _ _ c.from_residual.ensures.1 (then_refused _ (λ e. tested_leads) c.in_err-e.ensures)
@@ -122,10 +111,6 @@ among-returns-in_default t c = after_missing c.in_default.ensures
 pub among-returns-in-Err : goal.among-returns-in-Err
 among-returns-in-Err t c = after_got c.in-Some.ensures (as_refused c.in-Err.fault (answers_less (omega arith) c.in-Err.ensures))
 
-pub among-returns : goal.among-returns
-among-returns t c = made_along _ c.made.ensures c.among.ensures
-    (after_got c.in-Some.ensures (as_got (answers_less (omega arith) c.in-Ok.ensures)))
-
 pub between-returns-in-Err : goal.between-returns-in-Err
 between-returns-in-Err t c = then_refused c.in-Err.fault (λ low. after_leads (omega arith)) c.in-Err.ensures
 
@@ -137,10 +122,6 @@ up_to-returns-in_default t c = after_missing c.in_default.ensures
 
 pub up_to-returns-in-Err : goal.up_to-returns-in-Err
 up_to-returns-in-Err t c = after_got c.in-Some.ensures (as_refused c.in-Err.fault (answers_less (omega arith) c.in-Err.ensures))
-
-pub up_to-returns : goal.up_to-returns
-up_to-returns t c = made_along _ c.made.ensures c.within.ensures
-    (after_got c.in-Some.ensures (as_got (answers_less (omega arith) c.in-Ok.ensures)))
 
 pub sign-returns-in_default : goal.sign-returns-in_default
 sign-returns-in_default t c = either_second (never_then c.in_default.ensures) c.primary.ensures
@@ -156,13 +137,6 @@ sign-returns-in_err-e t c = let lt : 0 < c.args.depth = c.in_ok-one_level.ensure
     (then_got {j = 31} (λ m. any_leads) (one_got c.in-Some.ensures)
     (as_refused _ (lower c.args.depth SignRank (λ (R : Row Tree). Answers R 28 (meanings c.in-Some.after.now)
     (failed c.in_err-e.field-0.0)) lt c.in_err-e.ensures))))
-
-pub sign-returns : goal.sign-returns
-sign-returns t c = let lt : 0 < c.args.depth = c.in_ok-one_level.ensures.ok in
-    made_along _ c.made.ensures c.signed.ensures (either_first (primary_no_sign c.in-Some.ensures)
-    (then_got {j = 31} (λ m. any_leads) (one_got c.in-Some.ensures)
-    (as_got (lower c.args.depth SignRank (λ (R : Row Tree). Answers R 28 (meanings c.in-Some.after.now)
-    (Got (view c.in_ok-e.e) (meanings c.in_ok-e.rest.now))) lt c.in_ok-e.ensures))))
 
 pub primary-returns-in-Some : goal.primary-returns-in-Some
 primary-returns-in-Some t c = got_along (number_says _) refl (primary_number c.in-Some.ensures)
@@ -197,10 +171,6 @@ pub column_or_call-returns-in-Some : goal.column_or_call-returns-in-Some
 column_or_call-returns-in-Some t c = perhaps_present (grips c.in-Some.ensures (omega arith))
     (either_first (other_token c.in-Some.ensures (λ q. cc)) (after_got c.in-Some.ensures (answers_less (omega arith) c.qualified.ensures)))
 
-pub column_or_call-returns-in-None : goal.column_or_call-returns-in-None
-column_or_call-returns-in-None t c = got_along c.column.ensures refl
-    (perhaps_absent (never_either (after_never c.in_default.ensures) (after_never c.in-None.ensures)))
-
 pub column_or_call-returns-in-Some-symbol : goal.column_or_call-returns-in-Some-symbol
 column_or_call-returns-in-Some-symbol t c = perhaps_present (grips c.in-Some-symbol.ensures (omega arith))
     (either_second (after_never c.in_default.ensures) (after_got c.in-Some-symbol.ensures c.call.ensures))
@@ -218,15 +188,6 @@ call-returns-in-Err-optional_over t c = then_got (λ g. any_leads) c.in_ok-argum
     (then_got (λ f. call_leads) c.in-Ok.ensures (then_refused c.in-Err-optional_over.fault (λ r. done_leads (omega arith))
     c.in-Err-optional_over.ensures))
 
-pub call-returns : goal.call-returns
-call-returns t c = made_along _ c.made.ensures c.call.ensures (then_got (λ g. any_leads) c.in_ok-arguments.ensures
-    (then_got (λ f. call_leads) c.in-Ok.ensures (then_got (λ r. done_leads (omega arith)) c.in-Ok-optional_over.ensures done_got)))
-
-pub arguments-returns-in-Some : goal.arguments-returns-in-Some
-arguments-returns-in-Some t c = got_along (c.listed.ensures ∙ ap (λ (v : List Expression). These (trees (views v)))
-    c.new.ensures.items) refl (either_first (never_either (other_token c.in-Some.ensures (λ q. cc))
-    (no_list c.args.depth c.in-Some.ensures (omega arith))) (after_got c.in-Some.ensures done_got))
-
 pub arguments-returns-in-None : goal.arguments-returns-in-None
 arguments-returns-in-None t c = either_second (after_never c.in_default.ensures)
     (either_first (no_list c.args.depth c.in-Some-symbol.ensures (omega arith)) (after_got c.in-Some-symbol.ensures c.in-None.ensures))
@@ -241,10 +202,6 @@ pub arguments-returns-in_err-list : goal.arguments-returns-in_err-list
 arguments-returns-in_err-list t c = handed_on _ _ _ _ c.from_residual.ensures.1
     (either_second (after_never c.in_default.ensures) (either_second (after_never c.in_default-symbol.ensures)
     (as_refused _ c.in_err-list.ensures)))
-
-pub arguments-returns : goal.arguments-returns
-arguments-returns t c = got_along c.listed-2.ensures refl (either_second (after_never c.in_default.ensures)
-    (either_second (after_never c.in_default-symbol.ensures) (as_got c.in_ok-list.ensures)))
 
 pub closed_list-returns-in_err-one_level : goal.closed_list-returns-in_err-one_level
 closed_list-returns-in_err-one_level t c =
@@ -429,3 +386,50 @@ primary-returns-in-Some-name t c = primary_name_copied c.in-Some-name.ensures c.
 
 pub primary-returns-in-Some-keyword-2 : goal.primary-returns-in-Some-keyword-2
 primary-returns-in-Some-keyword-2 t c = primary_grouping c.in-Some-keyword-2.ensures (answers_less (omega arith) c.grouping_call.ensures)
+
+pub negation-returns : goal.negation-returns
+negation-returns t c = let lt : 0 < c.args.depth = c.in_ok-one_level.ensures.ok in
+    got_along (not_says _ _ c.in_ok-operand.ensures.ok) refl
+    (either_first (begins_not (tests_begin c.args.depth (deeper c.args.depth)) c.in-Some.ensures (omega arith))
+    (after_got c.in-Some.ensures (as_got
+    (lower c.args.depth NegationRank (λ (R : Row Tree). Answers R 22 (meanings c.in-Some.after.now)
+    (Got (view c.in_ok-e.e) (meanings c.in_ok-e.rest.now))) lt c.in_ok-e.ensures))))
+
+pub compared-returns : goal.compared-returns
+compared-returns t c = got_along (compare_says _ _ _ _ _ c.in-Ok-new.ensures.ok c.in-Ok-new-2.ensures.ok) refl
+    (perhaps_present (one_grips comparison_grip c.in-Some.ensures) (then_got {j = 31} (λ x. any_leads)
+    (one_got c.in-Some.ensures) (as_got (answers_less (omega arith) c.in-Ok.ensures))))
+
+pub among-returns : goal.among-returns
+among-returns t c = got_along (in_says _ _ _ _ c.in-Ok-new.ensures.ok) refl
+    (after_got c.in-Some.ensures (as_got (answers_less (omega arith) c.in-Ok.ensures)))
+
+pub up_to-returns : goal.up_to-returns
+up_to-returns t c = got_along (between_says _ _ _ _ _ _ _ c.in-Ok-new.ensures.ok c.in-Ok-new-2.ensures.ok c.in-Ok-new-3.ensures.ok) refl
+    (after_got c.in-Some.ensures (as_got (answers_less (omega arith) c.in-Ok.ensures)))
+
+pub sign-returns : goal.sign-returns
+sign-returns t c = let lt : 0 < c.args.depth = c.in_ok-one_level.ensures.ok in
+    got_along (sign_says _ _ _ c.in_ok-operand.ensures.ok) refl (either_first (primary_no_sign c.in-Some.ensures)
+    (then_got {j = 31} (λ m. any_leads) (one_got c.in-Some.ensures)
+    (as_got (lower c.args.depth SignRank (λ (R : Row Tree). Answers R 28 (meanings c.in-Some.after.now)
+    (Got (view c.in_ok-e.e) (meanings c.in_ok-e.rest.now))) lt c.in_ok-e.ensures))))
+
+pub column_or_call-returns-in-None : goal.column_or_call-returns-in-None
+column_or_call-returns-in-None t c = got_along (column_says _) refl
+    (perhaps_absent (never_either (after_never c.in_default.ensures) (after_never c.in-None.ensures)))
+
+pub arguments-returns : goal.arguments-returns
+arguments-returns t c = got_along (listed_says _) refl (either_second (after_never c.in_default.ensures)
+    (either_second (after_never c.in_default-symbol.ensures) (as_got c.in_ok-list.ensures)))
+
+pub call-returns : goal.call-returns
+call-returns t c = got_along (call_says _ _ c.in_ok-call.ensures.ok) refl (then_got (λ g. any_leads) c.in_ok-arguments.ensures
+    (then_got (λ f. call_leads) c.in-Ok.ensures (then_got (λ r. done_leads (omega arith)) c.in-Ok-optional_over.ensures done_got)))
+
+pub arguments-returns-in-Some : goal.arguments-returns-in-Some
+arguments-returns-in-Some t c =
+    let empty : view_arguments (given.Listed c.new.result) ≡ These NoTrees = listed_says c.new.result
+    ∙ ap (λ (v : List Expression). These (trees (views v))) c.new.ensures.items in
+    got_along empty refl (either_first (never_either (other_token c.in-Some.ensures (λ q. cc))
+    (no_list c.args.depth c.in-Some.ensures (omega arith))) (after_got c.in-Some.ensures done_got))

@@ -1,5 +1,6 @@
-use Rattle.std.proofs.Common.{arith}
-use Rattle.wexpressions.proofs.Steps.{grips, made_along, after_leads, then_got, after_got, after_missing}
+use Rattle.std.proofs.Common.{arith, refl}
+use Rattle.wquery.proofs.Says.{is_null_says}
+use Rattle.wexpressions.proofs.Steps.{grips, got_along, after_leads, then_got, after_got, after_missing}
 use Rattle.wexpressions.proofs.Steps.{after_never, perhaps_absent, perhaps_present, done_got}
 use Rattle.wexpressions.proofs.Parts.{optional_answers}
 use Rattle.wexpressions.proofs.expressions.null_tested.Goals as goal
@@ -13,6 +14,6 @@ returns-in_default-keyword c = perhaps_present (grips c.in-Some.ensures (omega a
     c.optional_not-negated.ensures.here c.optional_not-negated.ensures.absent) (after_missing c.in_default-keyword.ensures)))
 
 pub returns : goal.returns
-returns c = made_along _ c.made.ensures c.null_test.ensures (perhaps_present (grips c.in-Some.ensures (omega arith))
+returns c = got_along (is_null_says _ _ _ c.in_ok-operand.ensures.ok) refl (perhaps_present (grips c.in-Some.ensures (omega arith))
     (after_got c.in-Some.ensures (then_got (λ n. after_leads (omega arith)) (optional_answers {k = 25} _ (omega arith)
     c.optional_not-negated.ensures.here c.optional_not-negated.ensures.absent) (after_got c.in-Some-keyword.ensures done_got))))

@@ -1,4 +1,5 @@
 use Rattle.std.proofs.Common.{refl}
+use Rattle.wquery.proofs.Says.{column_says}
 use Rattle.wexpressions.proofs.Steps.{got_along, handed_on}
 use Rattle.wexpressions.proofs.columns.GroupingColumnsElement.read.Goals as goal
 
@@ -6,4 +7,4 @@ pub returns-in_err-column-clause-spelled : goal.returns-in_err-column-clause-spe
 returns-in_err-column-clause-spelled c = handed_on _ _ _ _ c.from_residual.ensures.1 c.in_err-column.ensures.spelled
 
 pub returns-clause-spelled : goal.returns-clause-spelled
-returns-clause-spelled c = got_along c.column.ensures refl c.in_ok-column.ensures.spelled
+returns-clause-spelled c = got_along (column_says _) refl c.in_ok-column.ensures.spelled
