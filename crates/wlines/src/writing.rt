@@ -10,7 +10,7 @@ use wvalues::Counted;
 #[derive(Debug, Drop)]
 pub struct WriteFault;
 
-// Writes bytes until all are written or a write fails, and tells how many were written.
+/// Writes bytes until all are written or a write fails, and tells how many were written.
 pub(crate) fn write_front<W: Write>(output: &mut Counted<W>, bytes: &[u8]) -> usize
     requires { IsSoundWriter output.old }
     ensures within { result ≤ length bytes.now }
