@@ -26,18 +26,19 @@ pub(crate) fn value_place(values: &[&Value], row: usize) -> Option<usize>
 fn is_before(a: &Value, b: &Value, greatest: bool) -> bool
     ensures { result ≡ is_lt (by_value_in greatest (meaning a.now) (meaning b.now)) }
 {
-    match (a, b) {
-        (Value::Int(x), Value::Int(y)) if greatest => y.cmp(x).is_lt(),
-        (Value::Int(x), Value::Int(y)) => x.cmp(y).is_lt(),
-        _ => {
-            let key = SortKey {
-                col: 0,
-                desc: greatest,
-                nulls_first: false,
-            };
-            compare(a, b, &key).is_lt()
-        }
+    if let (Value::Int(x), Value::Int(y)) = (a, b) {
+        return if greatest {
+            y.cmp(x).is_lt()
+        } else {
+            x.cmp(y).is_lt()
+        };
     }
+    let key = SortKey {
+        col: 0,
+        desc: greatest,
+        nulls_first: false,
+    };
+    compare(a, b, &key).is_lt()
 }
 
 /// The one of two places whose value is the least, or the greatest; the left one, if they are equal.
