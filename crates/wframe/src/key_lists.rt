@@ -64,6 +64,20 @@ fn part_numbers<'a>(numbers: &'a [u32], span: Span) -> &'a [u32]
     &numbers[span.from..span.to]
 }
 
+impl<'a> LaidLists<'a> {
+    // The list of a row, where each row has so many cells.
+    fn list(&self, width: usize, row: usize) -> LentList<'a>
+        requires { row * width + width ≤ length self.now.cells.now }
+        ensures list { result.cells.now ≡ take width (drop (row * width) self.now.cells.now) }
+        ensures len { length result.cells.now ≡ width }
+    {
+        let from = row * width;
+        LentList {
+            cells: &self.cells[from..from + width],
+        }
+    }
+}
+
 impl<'a> PlacedLists<'a> {
     // The list of a row.
     fn list(&self, row: usize) -> PlacedList<'a>
@@ -108,16 +122,7 @@ pub fn list_at<'a>(lists: &KeyLists<'a>, width: usize, count: usize, row: usize)
     ensures len { length (list_in result) ≡ width }
 {
     match lists {
-        KeyLists::Laid(lists) => KeyList::Lent(LentList {
-            cells: part_slice(
-                lists.cells,
-                width,
-                Span {
-                    from: row,
-                    to: row + 1,
-                },
-            ),
-        }),
+        KeyLists::Laid(lists) => KeyList::Lent(lists.list(width, row)),
         KeyLists::Placed(lists) => KeyList::Placed(lists.list(row)),
         KeyLists::Picked(lists) => KeyList::Whole(lists.list(width, row)),
     }

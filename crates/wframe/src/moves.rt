@@ -1,5 +1,6 @@
 //! How far a bound moves a number of rows or of groups.
 ghost use Rattle.std.specs.Prelude.{◌≡◌, min};
+ghost use Rattle.wframe.specs.Bounds.{is_offset};
 ghost use Rattle.wframe.specs.Moves.{move_of, moved_number};
 ghost use Rattle.wframe.specs.Offsets.{moves_groups as has_moved_groups};
 
@@ -37,6 +38,13 @@ impl Move {
     }
 }
 
+// Whether a bound is moved from a row by an offset.
+fn is_offset(bound: FrameBound) -> bool
+    ensures { result ≡ is_offset bound }
+{
+    matches!(bound, FrameBound::Preceding(_) | FrameBound::Following(_))
+}
+
 /// Whether a frame moves keys or group numbers. One that does not ends where the row's peers do, at the first row or at the
 /// last one; in ROWS the row's place is moved.
 pub fn moves_groups(frame: Frame) -> bool
@@ -44,14 +52,6 @@ pub fn moves_groups(frame: Frame) -> bool
 {
     match frame.mode {
         FrameMode::Rows => false,
-        FrameMode::Range | FrameMode::Groups => {
-            matches!(
-                frame.start,
-                FrameBound::Preceding(_) | FrameBound::Following(_)
-            ) || matches!(
-                frame.end,
-                FrameBound::Preceding(_) | FrameBound::Following(_)
-            )
-        }
+        FrameMode::Range | FrameMode::Groups => is_offset(frame.start) || is_offset(frame.end),
     }
 }
