@@ -146,12 +146,13 @@ pub(crate) fn can_be_dealt(blocks: &[Block], keys: &[SortKey]) -> bool
     let mut rows: usize = 0;
     let mut walk = Walk::new(blocks);
     'walk: while let Some(entry) = walk.step() {
-        if let Held::Live(kept) = &entry.held {
-            if kept.has(keys) {
-                return false;
-            }
-            rows = rows.saturating_add(kept.rows());
+        let Held::Live(kept) = &entry.held else {
+            continue;
+        };
+        if kept.has(keys) {
+            return false;
         }
+        rows = rows.saturating_add(kept.rows());
     }
     rows <= MOST_DEALT
 }
