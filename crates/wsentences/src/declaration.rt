@@ -24,14 +24,9 @@ fn is_name_byte(byte: u8) -> bool {
 
 // Whether a word is the name of a table or a column.
 fn is_name(word: &[u8]) -> bool {
-    match word.first() {
-        None => false,
-        Some(first) => {
-            !first.is_ascii_digit()
-                && word.len() <= LONGEST_NAME
-                && word.iter().all(|byte| is_name_byte(*byte))
-        }
-    }
+    word.first().is_some_and(|first| !first.is_ascii_digit())
+        && word.len() <= LONGEST_NAME
+        && word.iter().all(|byte| is_name_byte(*byte))
 }
 
 // Whether a line declares the table.
