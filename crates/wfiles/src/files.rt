@@ -196,14 +196,10 @@ fn new_names(alloc: Global, names: &[u8]) -> Result<Vec<String>, AllocError>
     let mut name = Vec::new(alloc);
     'bytes: for byte in names.iter() {
         if *byte != 0 {
-            if let Err(error) = name.push(*byte) {
-                return Err(error.into());
-            }
+            name.push(*byte)?;
             continue;
         }
-        if let Err(error) = push_new(alloc, &mut found, name.as_slice()) {
-            return Err(error);
-        }
+        push_new(alloc, &mut found, name.as_slice())?;
         name.clear();
     }
     Ok(found)

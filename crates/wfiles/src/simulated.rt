@@ -109,17 +109,13 @@ impl Folder for Simulated<'_> {
             let error = io::Error::from(ErrorKind::TimedOut);
             return Err(self.system.read_failed(&error));
         }
-        match self.disk.names(alloc, folder) {
-            Ok(names) => {
-                self.trace.note_names(folder.as_bytes(), names.as_slice());
-                Ok(names)
-            }
-            Err(_) => {
-                self.trace
-                    .note_call(CallKind::Listed, false, folder.as_bytes(), &[]);
-                Err(self.system.refused())
-            }
-        }
+        let Ok(names) = self.disk.names(alloc, folder) else {
+            self.trace
+                .note_call(CallKind::Listed, false, folder.as_bytes(), &[]);
+            return Err(self.system.refused());
+        };
+        self.trace.note_names(folder.as_bytes(), names.as_slice());
+        Ok(names)
     }
 
     fn create_new(&mut self, path: &str, is_closed: bool) -> Result<bool, Fault> {

@@ -35,6 +35,9 @@ const PAUSE: u64 = 10;
 /// What is told of a path that leads to no place for a file.
 const NO_PLACE: &str = "here stands no plain file that may be written, and none can be made";
 
+/// What is told of a lock that another program has.
+const LOCK_WAIT: &str = "waiting for another program that holds the lock of the store's folder";
+
 /// The try before which it is told that the lock is waited for: after a second.
 const TOLD_TRY: u32 = 100;
 
@@ -112,9 +115,7 @@ fn take_lock<R: Clock + Eprint>(rt: &R, folder: &File) -> io::Result<()> {
             Err(TryLockError::WouldBlock) => {}
         }
         if number == TOLD_TRY {
-            let _ = eprintln!(rt;
-                "waiting for another program that holds the lock of the store's folder"
-            );
+            let _ = eprintln!(rt; "{LOCK_WAIT}");
         }
         thread::sleep(rt, Duration::from_millis(PAUSE));
     }
@@ -310,18 +311,17 @@ impl<R: Files<File = File> + AllocGlobal> System<'_, R> {
         ensures sound { OnOk result (NothingFailed self.new) }
         ensures cause { IfErr result (λ fault. HasCause fault self.new) }
     {
-        match if_there(fs::metadata(self.files, path)) {
-            Ok(Some(metadata)) => {
-                let permissions = self.permissions(&metadata)?;
-                Ok(Some(Access {
-                    owner: metadata.uid(),
-                    group: metadata.gid(),
-                    permissions,
-                }))
-            }
-            Ok(None) => self.absent(path),
-            Err(error) => Err(self.write_failed(&error)),
-        }
+        let metadata = match if_there(fs::metadata(self.files, path)) {
+            Ok(Some(metadata)) => metadata,
+            Ok(None) => return self.absent(path),
+            Err(error) => return Err(self.write_failed(&error)),
+        };
+        let permissions = self.permissions(&metadata)?;
+        Ok(Some(Access {
+            owner: metadata.uid(),
+            group: metadata.gid(),
+            permissions,
+        }))
     }
 
     // Nothing, where a path leads to nothing and is no link.
