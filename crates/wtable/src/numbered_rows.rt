@@ -226,16 +226,14 @@ fn number_among(kept: &NumberedRows, row: &RowRef) -> Option<usize>
 fn push_present(numbers: &mut Vec<u32>, number: Option<usize>) -> Result<(), AllocError>
     ensures { OnOk result (numbers.new.items ≡ numbers.old.items ++ all_present (number ∷ [])) }
 {
-    match number {
-        None => Ok(()),
-        Some(number) => {
-            let Ok(short) = u32::try_from(number) else {
-                return Err(AllocError);
-            };
-            numbers.push(short)?;
-            Ok(())
-        }
-    }
+    let Some(number) = number else {
+        return Ok(());
+    };
+    let Ok(short) = u32::try_from(number) else {
+        return Err(AllocError);
+    };
+    numbers.push(short)?;
+    Ok(())
 }
 
 /// The numbers, among the rows that are kept, of those of some rows that are kept, in their order.
