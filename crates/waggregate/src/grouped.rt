@@ -182,31 +182,29 @@ fn aggregate_values(
     sums_are_exact();
     places_are_least();
     stable_sorts_agree();
-    let tests = lent(filter);
+    let filter = lent(filter);
     let mut meter = Meter::new();
     match function {
-        AggregateFunction::CountRows => count_groups(alloc, filter, groups, count, order),
+        AggregateFunction::CountRows => {
+            let rows = groups.len();
+            let fold = CountRows { rows, filter };
+            fold_groups(alloc, &fold, &mut meter, groups, count, order)
+        }
         AggregateFunction::Count => {
-            let fold = Count {
-                values,
-                filter: tests,
-            };
+            let fold = Count { values, filter };
             fold_groups(alloc, &fold, &mut meter, groups, count, order)
         }
         AggregateFunction::Sum => {
             see_ranges(values);
-            let fold = Sum {
-                values,
-                filter: tests,
-            };
+            let fold = Sum { values, filter };
             fold_groups(alloc, &fold, &mut meter, groups, count, order)
         }
         AggregateFunction::Min => {
-            let fold = extreme(values, tests, false);
+            let fold = extreme(values, filter, false);
             fold_groups(alloc, &fold, &mut meter, groups, count, order)
         }
         AggregateFunction::Max => {
-            let fold = extreme(values, tests, true);
+            let fold = extreme(values, filter, true);
             fold_groups(alloc, &fold, &mut meter, groups, count, order)
         }
     }
