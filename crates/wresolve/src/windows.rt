@@ -165,19 +165,17 @@ fn push_window_over(
     ensures { OnOk result (map window_plan windows.new.items ≡ map window_plan windows.old.items ++ window_of_reach
         (layout_of layout.now) (windows_in entries.now) (view_over over.now)) }
 {
-    match over {
-        Over::Named(_) => Ok(()),
-        Over::Windowed(window) => {
-            let earlier = Earlier {
-                index: entries,
-                before: None,
-            };
-            let window = earlier.expanded(window);
-            let made = build_window(alloc, layout, &window)?;
-            windows.push(made)?;
-            Ok(())
-        }
-    }
+    let Over::Windowed(window) = over else {
+        return Ok(());
+    };
+    let earlier = Earlier {
+        index: entries,
+        before: None,
+    };
+    let window = earlier.expanded(window);
+    let made = build_window(alloc, layout, &window)?;
+    windows.push(made)?;
+    Ok(())
 }
 
 fn push_optional_window(
