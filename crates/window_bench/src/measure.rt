@@ -1,5 +1,5 @@
 //! Builds the frames of partitions, folds them, and asks the clock what each took.
-ghost use Rattle.std.specs.Prelude.{◌≡◌, ◌≤◌, ◌<◌, ◌+◌, ◌^◌, length, IfOk};
+ghost use Rattle.std.specs.Prelude.{◌≡◌, ◌≤◌, ◌<◌, ◌+◌, ◌^◌, length, IfOk, None};
 ghost use Rattle.wslide.specs.Frames.{folds_of_spans, most_by_queues};
 
 use crate::case::{Aggregate, Case};
@@ -72,6 +72,19 @@ fn folds<F: Fold>(
     Ok(folds)
 }
 
+// The fold that finds the greatest of some values, or else the least.
+fn extreme<'a>(values: &'a [&'a Value], greatest: bool) -> Extreme<'a>
+    ensures values { result.values.now ≡ values.now }
+    ensures filter { result.filter ≡ None }
+    ensures greatest { result.greatest ≡ greatest }
+{
+    Extreme {
+        values,
+        filter: None,
+        greatest,
+    }
+}
+
 // The sum of what an aggregate comes to over each frame.
 fn sum_of_folds(
     alloc: Global,
@@ -99,20 +112,12 @@ fn sum_of_folds(
             Ok(numbers.fold(0, i128::wrapping_add))
         }
         Aggregate::Least => {
-            let least = Extreme {
-                values,
-                filter,
-                greatest: false,
-            };
+            let least = extreme(values, false);
             let places = folds(alloc, &least, rows, partitions, meter)?;
             Ok(sum_at(values, &places))
         }
         Aggregate::Greatest => {
-            let greatest = Extreme {
-                values,
-                filter,
-                greatest: true,
-            };
+            let greatest = extreme(values, true);
             let places = folds(alloc, &greatest, rows, partitions, meter)?;
             Ok(sum_at(values, &places))
         }
