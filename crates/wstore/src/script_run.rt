@@ -337,15 +337,11 @@ pub fn run<R: Read, W: Write>(
     };
     match answer_all(alloc, &mut source, input, &mut outbox, output) {
         Ok(end) => {
-            if let Err(fault) = write_rest(&mut outbox, output) {
-                return Err(fault);
-            }
+            write_rest(&mut outbox, output)?;
             Ok(end)
         }
         Err(RunFault::NoMemory) => {
-            if let Err(fault) = write_rest(&mut outbox, output) {
-                return Err(fault);
-            }
+            write_rest(&mut outbox, output)?;
             Err(RunFault::NoMemory)
         }
         // What waited was written before the reader failed, and cannot be after the writer did.

@@ -1,4 +1,5 @@
 use Rattle.std.proofs.Common.{ap, refl}
+use Rattle.std.proofs.lemmas.Result.{err_from_is_err_and}
 use Rattle.wlines.specs.Sent.{sent}
 use Rattle.wlines.proofs.Saying.{says_nothing}
 use Rattle.wstore.specs.Runs.{Replies, RepliesBegun}
@@ -21,26 +22,31 @@ returns-in-Ok-answer_all-clause-replies g c =
     (sent g.W.Write.contents c.in-Ok-new.outbox c.args.output.now) (sent g.W.Write.contents c.answer_all.new.outbox
     c.answer_all.new.output) (ap (λ o. o.bytes) c.in-Ok-new.ensures)
     (sent g.W.Write.contents c.write_rest.new.outbox c.write_rest.new.output) (Replies c.in-Ok-answer_all.end)
-    c.write_rest.ensures.says c.in_default-write_rest.ensures.ok c.in-Ok-answer_all.ensures.replies
+    c.write_rest.ensures.says c.in_ok-write_rest-in-Ok-answer_all.ensures.ok c.in-Ok-answer_all.ensures.replies
 
-pub returns-in-Err-clause-begun : goal.returns-in-Err-clause-begun
-returns-in-Err-clause-begun g c =
-    ended_front c.answer_all.new.input.reads (g.R.Read.remaining c.args.input.now.inner) c.in-Ok.source.held
+pub returns-in_err-write_rest-in-Ok-answer_all-clause-begun : goal.returns-in_err-write_rest-in-Ok-answer_all-clause-begun
+returns-in_err-write_rest-in-Ok-answer_all-clause-begun g c =
+    let p = err_from_is_err_and c.from_residual.result c.from_residual.ensures.1 in
+    let failed = c.in_err-write_rest-in-Ok-answer_all in
+    rw (p.1, p.2) (ended_front c.answer_all.new.input.reads (g.R.Read.remaining c.args.input.now.inner) c.in-Ok.source.held
     (ap (λ s. s.held) c.in-Ok.ensures)
     (sent g.W.Write.contents c.in-Ok-new.outbox c.args.output.now) (sent g.W.Write.contents c.answer_all.new.outbox
     c.answer_all.new.output) (ap (λ o. o.bytes) c.in-Ok-new.ensures)
-    (sent g.W.Write.contents c.write_rest.new.outbox c.write_rest.new.output) c.in-Ok-answer_all.end c.in-Err.fault
-    c.in-Err.ensures.fault c.write_rest.ensures.says c.in-Ok-answer_all.ensures.replies
+    (sent g.W.Write.contents c.write_rest.new.outbox c.write_rest.new.output) c.in-Ok-answer_all.end failed.field-0.0
+    failed.ensures.fault c.write_rest.ensures.says c.in-Ok-answer_all.ensures.replies)
 
-pub returns-in-Err-write_rest-clause-begun : goal.returns-in-Err-write_rest-clause-begun
-returns-in-Err-write_rest-clause-begun g c =
-    failed_front c.answer_all.new.input.reads (g.R.Read.remaining c.args.input.now.inner) c.in-Ok.source.held
+pub returns-in_err-write_rest-in-Err-NoMemory-clause-begun : goal.returns-in_err-write_rest-in-Err-NoMemory-clause-begun
+returns-in_err-write_rest-in-Err-NoMemory-clause-begun g c =
+    let p = err_from_is_err_and c.from_residual-in_err-write_rest-in-Err-NoMemory.result
+        c.from_residual-in_err-write_rest-in-Err-NoMemory.ensures.1 in
+    let failed = c.in_err-write_rest-in-Err-NoMemory in
+    rw (p.1, p.2) (failed_front c.answer_all.new.input.reads (g.R.Read.remaining c.args.input.now.inner) c.in-Ok.source.held
     (ap (λ s. s.held) c.in-Ok.ensures)
     (sent g.W.Write.contents c.in-Ok-new.outbox c.args.output.now) (sent g.W.Write.contents c.answer_all.new.outbox
     c.answer_all.new.output) (ap (λ o. o.bytes) c.in-Ok-new.ensures)
     (sent g.W.Write.contents c.write_rest-in-Err-NoMemory.new.outbox c.write_rest-in-Err-NoMemory.new.output)
-    c.in-Err-NoMemory.field-0 c.in-Err-write_rest.fault c.in-Err-write_rest.ensures.fault
-    c.write_rest-in-Err-NoMemory.ensures.says c.in-Err-NoMemory.ensures.begun
+    c.in-Err-NoMemory.field-0 failed.field-0.0 failed.ensures.fault
+    c.write_rest-in-Err-NoMemory.ensures.says c.in-Err-NoMemory.ensures.begun)
 
 pub returns-in-Err-NoMemory-clause-begun : goal.returns-in-Err-NoMemory-clause-begun
 returns-in-Err-NoMemory-clause-begun g c =
@@ -51,7 +57,7 @@ returns-in-Err-NoMemory-clause-begun g c =
     c.answer_all.new.output) (ap (λ o. o.bytes) c.in-Ok-new.ensures)
     (sent g.W.Write.contents c.write_rest-in-Err-NoMemory.new.outbox c.write_rest-in-Err-NoMemory.new.output)
     (RepliesBegun faults.NoMemory c.answer_all.new.input.reads) c.write_rest-in-Err-NoMemory.ensures.says
-    c.in_default-write_rest-2.ensures.ok said
+    c.in_ok-write_rest-in-Err-NoMemory.ensures.ok said
 
 pub returns-clause-begun : goal.returns-clause-begun
 returns-clause-begun g c =
