@@ -24,20 +24,12 @@ pub fn reply(alloc: Global, node: &mut Node, query: &[u8]) -> Result<QueryReply,
     ensures lacks { OnErr result (IsText query.now) }
     ensures same { node.new ≡ node.old }
 {
-    match node.ask(query) {
-        Ok(answer) => Ok(QueryReply {
-            text: Text::Made(answer),
-            is_refused: false,
-        }),
-        Err(AskFault::NoMemory) => Err(AllocError),
-        Err(fault) => {
-            let text = refused_query(alloc, fault)?;
-            Ok(QueryReply {
-                text,
-                is_refused: true,
-            })
-        }
-    }
+    let (text, is_refused) = match node.ask(query) {
+        Ok(answer) => (Text::Made(answer), false),
+        Err(AskFault::NoMemory) => return Err(AllocError),
+        Err(fault) => (refused_query(alloc, fault)?, true),
+    };
+    Ok(QueryReply { text, is_refused })
 }
 
 // The bytes of a text, behind which more can be added.

@@ -1,34 +1,29 @@
-use Rattle.std.proofs.Common.{rules, ◌≢◌, ◌≡◌, ◌⊎◌, Ok, Err, refl}
+use Rattle.std.proofs.Common.{rules, ◌≢◌, ◌≡◌, ◌⊎◌, Ok, Err, refl, subst, sym}
 use Rattle.wask.specs.Answer.{IsAnswer}
 use Rattle.wplanner.specs.declared.fault.AskFault.TheVariants.{NoMemory}
-use Rattle.wact.proofs.Outcomes.{at_err, but_memory}
-use Rattle.wact.proofs.Replying.{text_numbered}
+use Rattle.wreplies.specs.Texts.{bytes_of}
+use Rattle.wact.specs.Queries.{IsReply}
+use Rattle.wact.proofs.Outcomes.{but_memory}
 use Rattle.wact.proofs.queries.reply.Goals as goal
+use Rattle.wact.proofs.queries.reply.Goals.{in-Ok, in-Err+in_ok-refused_query-in-Err}
 
-pub returns-in-Ok-clause-replies : goal.returns-in-Ok-clause-replies
-returns-in-Ok-clause-replies c = record { answer = Ok c.in-Ok.answer.items; answers = search rules; text_is = refl; refused_is = refl }
-
-pub returns-in_ok-text-in-Err : goal.returns-in_ok-text-in-Err
-returns-in_ok-text-in-Err c =
-    let other : c.in-Err.fault ≢ NoMemory = search rules in
-    let told : (c.in-Err.fault ≡ NoMemory) ⊎ IsAnswer c.args.node.now.schema c.args.node.now.view c.args.query.now
-    (Err c.in-Err.fault) = search rules in
-    record {
-      replies = record {
-        answer = Err c.in-Err.fault;
-        answers = but_memory other told;
-        text_is =
-            c.in_ok-text-in-Err.ensures.text;
+pub returns-clause-replies : goal.returns-clause-replies
+returns-clause-replies c =
+    let node = c.args.node.now in
+    elim c.match-ask.branch [
+      | in-Ok w ↦ subst (λ t. IsReply node.schema node.view c.args.query.now (bytes_of t.0) t.1) (sym w.text-is) (record {
+        answer = Ok w.in-Ok.answer.items;
+        answers = search rules;
+        text_is = refl;
         refused_is = refl;
-      };
-      lacks = tt;
-      same = c.in-Err.ensures.same;
-    }
-
-pub returns-in_err-text-in-Err-clause-lacks : goal.returns-in_err-text-in-Err-clause-lacks
-returns-in_err-text-in-Err-clause-lacks c =
-    let other : c.in-Err.fault ≢ NoMemory = search rules in
-    let told : (c.in-Err.fault ≡ NoMemory) ⊎ IsAnswer c.args.node.now.schema c.args.node.now.view c.args.query.now
-    (Err c.in-Err.fault) = search rules in
-    at_err c.from_residual.result (text_numbered c.args.node.now.schema c.args.node.now.view c.args.query.now c.in-Err.fault
-    c.in_err-text-in-Err.ensures.lacks (but_memory other told))
+      })
+      | in-Err+in_ok-refused_query-in-Err w ↦
+          let other : w.in-Err.fault ≢ NoMemory = search rules in
+          let told : (w.in-Err.fault ≡ NoMemory) ⊎ IsAnswer node.schema node.view c.args.query.now (Err w.in-Err.fault) = search rules in
+          subst (λ t. IsReply node.schema node.view c.args.query.now (bytes_of t.0) t.1) (sym w.text-is) (record {
+            answer = Err w.in-Err.fault;
+            answers = but_memory other told;
+            text_is = w.in_ok-refused_query-in-Err.ensures.text;
+            refused_is = refl;
+          })
+    ]
