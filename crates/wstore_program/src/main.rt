@@ -216,18 +216,18 @@ fn run_choice<R: Files<File = File> + AllocGlobal + Clock + Eprint, I: Read, W: 
         (I.remaining result.input.inner) result.input (W.contents output.inner) (W.contents result.output.inner)
         result.output (exit_status result.status) }
 {
-    match choice.paths() {
-        None => run_session(rt, input, output),
-        Some(paths) if choice.is_act() => {
-            let mut output = output.into_inner();
-            let status = run_on_files(rt, system, calls, &mut output, choice, paths);
-            Outcome {
-                status,
-                input,
-                output: Counted::new(output),
-            }
-        }
-        Some(paths) => answer_input(rt, system, calls, input, output, paths),
+    let Some(paths) = choice.paths() else {
+        return run_session(rt, input, output);
+    };
+    if !choice.is_act() {
+        return answer_input(rt, system, calls, input, output, paths);
+    }
+    let mut output = output.into_inner();
+    let status = run_on_files(rt, system, calls, &mut output, choice, paths);
+    Outcome {
+        status,
+        input,
+        output: Counted::new(output),
     }
 }
 
@@ -247,17 +247,16 @@ fn run_words<R: Files<File = File> + AllocGlobal + Clock + Eprint, I: Read, W: W
         (I.remaining input.inner) (I.remaining result.input.inner) result.input (W.contents output.inner)
         (W.contents result.output.inner) result.output (exit_status result.status) }
 {
-    match choose(rt.alloc(), words) {
-        Ok(choice) => run_choice(rt, system, calls, input, output, &choice),
-        Err(fault) => {
-            let mut output = output.into_inner();
-            let status = tell(rt, system, &mut output, fault);
-            Outcome {
-                status,
-                input,
-                output: Counted::new(output),
-            }
-        }
+    let fault = match choose(rt.alloc(), words) {
+        Ok(choice) => return run_choice(rt, system, calls, input, output, &choice),
+        Err(fault) => fault,
+    };
+    let mut output = output.into_inner();
+    let status = tell(rt, system, &mut output, fault);
+    Outcome {
+        status,
+        input,
+        output: Counted::new(output),
     }
 }
 

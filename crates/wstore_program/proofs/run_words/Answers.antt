@@ -5,6 +5,6 @@ use Rattle.wstore_program.proofs.run_words.Goals as goal
 pub returns-in-Ok : goal.returns-in-Ok
 returns-in-Ok g c = Chosen c.in-Ok.choice c.in-Ok.ensures.chosen c.run_choice.ensures
 
-pub returns-in-Err : goal.returns-in-Err
-returns-in-Err g c = Told c.in-Err.fault c.in-Err.ensures.chosen refl refl
+pub returns : goal.returns
+returns g c = Told c.in-Err.fault c.in-Err.ensures.chosen refl refl
     (rw c.new.ensures (rw c.into_inner-output.ensures at c.tell-status.ensures))
