@@ -1,6 +1,6 @@
 -- Queries that are answered one after the other.
 use Rattle.std.proofs.Common.{◌≡◌, ◌∙◌, ◌||◌, ℕ, ◌+◌, ◌<◌, Bor, get_or, map, take, subst, Bool, true, false, suc, arith, List}
-use Rattle.std.proofs.Common.{[], ◌∷◌, ◌++◌, length, Result, Err, cond, inl, inr, true≢false, refl, sym, ap, append_assoc, append-nil}
+use Rattle.std.proofs.Common.{[], ◌∷◌, ◌++◌, length, Result, cond, refl, sym, ap, append_assoc, append-nil}
 use Rattle.std.specs.Prelude.{is_err}
 use Rattle.std.specs.List.{flat_map, list_any}
 use Rattle.std.proofs.lemmas.List.Folds.{list_any-append}
@@ -10,10 +10,7 @@ use Rattle.std.proofs.Math.Seq.{take-suc}
 use Rattle.wsegment.specs.Declaration.{Declaration}
 use Rattle.wset.specs.Views.{View}
 use Rattle.wask.specs.Answer.{IsAnswer}
-use Rattle.wask.specs.Texts.{IsText}
 use Rattle.wplanner.specs.declared.fault.AskFault.{AskFault}
-use Rattle.wplanner.specs.declared.fault.AskFault.TheVariants as faults
-use Rattle.wreplies.specs.Spelling.{has_number}
 use Rattle.wact.specs.declared.acted.Acted.{Acted}
 use Rattle.wact.specs.Outcomes.{IsReplied}
 use Rattle.wact.specs.Queries.{AreAnswers, Asks, IsReply, RepliesFollow, ReplyFollows, next_reply_text}
@@ -102,19 +99,3 @@ reply_follows d v query old mid new text p r s told line rest refused = record {
   text_is = rest ∙ ap (λ t. t ++ text) line ∙ append_assoc old (10 ∷ []) text ∙ ap (λ t. old ++ (10 ∷ t)) told.text_is;
   refused_is = refused ∙ ap (λ b. p || b) told.refused_is;
 }
-
--- ---- want of memory
-
--- bytes that are refused with a number are a text
-pub text_numbered : (d : Declaration) (v : View) (text : List ℕ) (fault : AskFault) → has_number fault ≡ true
-    → IsAnswer d v text (Err fault) → IsText text
-text_numbered d v text (faults.At place) h (inl unread) = unread.0
-text_numbered d v text (faults.At place) h (inr answered) = answered.1.0
-text_numbered d v text (faults.Broken rule) h (inl unread) = absurd unread
-text_numbered d v text (faults.Broken rule) h (inr answered) = answered.1.0
-text_numbered d v text faults.TooLong h a = absurd (true≢false (sym h))
-text_numbered d v text faults.NotUtf8 h a = absurd (true≢false (sym h))
-text_numbered d v text faults.Syntax h a = absurd (true≢false (sym h))
-text_numbered d v text faults.OutOfRange h a = absurd (true≢false (sym h))
-text_numbered d v text faults.TooManyRows h a = absurd (true≢false (sym h))
-text_numbered d v text faults.NoMemory h a = absurd a
