@@ -1,5 +1,5 @@
 //! Places and folds of the frames of one partition.
-ghost use Rattle.std.specs.Prelude.{◌≡◌, ◌<◌, ◌^◌, length};
+ghost use Rattle.std.specs.Prelude.{◌≡◌, ◌<◌, ◌^◌, length, None};
 
 use crate::case::{Aggregate, PlaceFunction};
 use std::alloc::{AllocError, Global};
@@ -110,6 +110,19 @@ fn values(alloc: Global) -> Result<Vec<Value>, AllocError> {
         .collect(alloc)
 }
 
+// The fold that finds the greatest of some values, or else the least.
+fn extreme<'a>(values: &'a [&'a Value], greatest: bool) -> Extreme<'a>
+    ensures values { result.values.now ≡ values.now }
+    ensures filter { result.filter ≡ None }
+    ensures greatest { result.greatest ≡ greatest }
+{
+    Extreme {
+        values,
+        filter: None,
+        greatest,
+    }
+}
+
 // The folds of the frames of rows with these values, which are their keys.
 fn folds_of(
     alloc: Global,
@@ -123,38 +136,24 @@ fn folds_of(
     let mut meter = Meter::new();
     match aggregate {
         Aggregate::Count => {
-            let count = Count { values, filter };
-            let counts = folds(alloc, values, exclusion, &count, &mut meter)?;
-            let numbers: Vec<i128> = counts.iter().map(|count| *count as i128).collect(alloc)?;
-            number_lines(alloc, &numbers)
+            let fold = Count { values, filter };
+            let counts = folds(alloc, values, exclusion, &fold, &mut meter)?;
+            let numbers = counts.iter().map(|count| *count as i128);
+            number_lines(alloc, &numbers.collect::<Vec<i128>>(alloc)?)
         }
         Aggregate::Sum => {
-            let sum = Sum { values, filter };
-            let sums = folds(alloc, values, exclusion, &sum, &mut meter)?;
-            let numbers: Vec<i128> = sums
-                .iter()
-                .map(|sum| sum.get().unwrap_or(-1))
-                .collect(alloc)?;
-            number_lines(alloc, &numbers)
+            let fold = Sum { values, filter };
+            let sums = folds(alloc, values, exclusion, &fold, &mut meter)?;
+            let numbers = sums.iter().map(|sum| sum.get().unwrap_or(-1));
+            number_lines(alloc, &numbers.collect::<Vec<i128>>(alloc)?)
         }
         Aggregate::Least => {
-            let least = Extreme {
-                values,
-                filter,
-                greatest: false,
-            };
-            place_lines(alloc, &folds(alloc, values, exclusion, &least, &mut meter)?)
+            let fold = extreme(values, false);
+            place_lines(alloc, &folds(alloc, values, exclusion, &fold, &mut meter)?)
         }
         Aggregate::Greatest => {
-            let greatest = Extreme {
-                values,
-                filter,
-                greatest: true,
-            };
-            place_lines(
-                alloc,
-                &folds(alloc, values, exclusion, &greatest, &mut meter)?,
-            )
+            let fold = extreme(values, true);
+            place_lines(alloc, &folds(alloc, values, exclusion, &fold, &mut meter)?)
         }
     }
 }
