@@ -38,7 +38,7 @@ returns-in_err-write_rest-in-Ok-answer_all-clause-begun g c =
 pub returns-in_err-write_rest-in-Err-NoMemory-clause-begun : goal.returns-in_err-write_rest-in-Err-NoMemory-clause-begun
 returns-in_err-write_rest-in-Err-NoMemory-clause-begun g c =
     let p = err_from_is_err_and c.from_residual-in_err-write_rest-in-Err-NoMemory.result
-        c.from_residual-in_err-write_rest-in-Err-NoMemory.ensures.1 in
+    c.from_residual-in_err-write_rest-in-Err-NoMemory.ensures.1 in
     let failed = c.in_err-write_rest-in-Err-NoMemory in
     rw (p.1, p.2) (failed_front c.answer_all.new.input.reads (g.R.Read.remaining c.args.input.now.inner) c.in-Ok.source.held
     (ap (λ s. s.held) c.in-Ok.ensures)
