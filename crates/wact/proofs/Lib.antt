@@ -3,3 +3,5 @@ pub mod Replying
 pub mod Delivering
 pub mod LongFacts
 pub mod LongTables
+pub mod OneStream
+pub mod Alike

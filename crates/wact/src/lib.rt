@@ -22,6 +22,6 @@ mod queries;
 pub use acted::{Acted, DONE, REFUSED, refused};
 pub use acting::act;
 pub use feeding::{feed_node, feed_store, undelivered};
-pub use laws::{long_is_refused_alike, long_table_is_refused_alike};
+pub use laws::{long_is_refused_alike, long_table_is_refused_alike, stores_act_alike};
 pub use opening::{Opened, Purpose, hashed, open_store};
 pub use queries::{QueryReply, reply};

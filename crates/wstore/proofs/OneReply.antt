@@ -40,7 +40,7 @@ use Rattle.wstore.proofs.Soundness.{no_file}
 
 -- ---- names
 
-one_name : (o m : List ℕ) (r s : Result NameParts NameFault) → ReadsName o m r → ReadsName o m s → r ≡ s
+pub one_name : (o m : List ℕ) (r s : Result NameParts NameFault) → ReadsName o m r → ReadsName o m s → r ≡ s
 one_name o m (Ok n) (Ok k) a b =
     let number : n.number ≡ k.number = decimal_injective n.number k.number (omega (arith, a.is_name.number.high))
     (omega (arith, b.is_name.number.high)) (sym a.number_is ∙ b.number_is) in

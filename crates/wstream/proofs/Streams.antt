@@ -1,6 +1,6 @@
 -- What stands first in a stream.
 use Rattle.std.proofs.Common.{◌≡◌, ◌≢◌, ℕ, zero, suc, ◌+◌, ◌-◌, ◌^◌, ◌<◌, ◌≤◌, List, [], ◌∷◌, ◌++◌, length, take, drop}
-use Rattle.std.proofs.Common.{inl, inr, refl, sym, ap, ◌∙◌, arith, append_assoc, length-append}
+use Rattle.std.proofs.Common.{inl, inr, refl, sym, ap, subst, get_or, ◌∙◌, ◌⊎◌, arith, append_assoc, append-nil, length-append}
 use Rattle.std.specs.Fmt.{decimal}
 use Rattle.std.proofs.lemmas.Fmt.{length-decimal-le}
 use Rattle.wlines.specs.Words.{Lacks}
@@ -293,3 +293,74 @@ bad_start bytes long lacks = record { closed = closed; none = none }
     none (FloorItem n) more h e =
         no_early 201 bytes (line_of (forms.Floor n)) more lacks (floor_short n h)
         (e ∙ append_assoc (line_of (forms.Floor n)) (10 ∷ []) more)
+
+-- ---- what is bad stays so, whatever follows
+
+-- of two cuts of one list, the front of the one begins that of the other
+fronts : (xs ys zs ws : List ℕ) → xs ++ ys ≡ zs ++ ws
+    → ((k : List ℕ) × (zs ≡ xs ++ k)) ⊎ ((b : ℕ) × (k : List ℕ) × (xs ≡ zs ++ (b ∷ k)) × (ws ≡ b ∷ (k ++ ys)))
+fronts [] ys zs ws e = inl (zs, refl)
+fronts (x ∷ xs) ys [] ws e = inr (x, xs, refl, sym e)
+fronts (x ∷ xs) ys (z ∷ zs) ws e =
+    let head : x ≡ z = cc in
+    let tail : xs ++ ys ≡ zs ++ ws = cc in
+    elim (fronts xs ys zs ws tail) [
+      | inl a ↦ inl (a.0, rw (head, a.1) refl)
+      | inr b ↦ inr (b.0, b.1, rw (head, b.2) refl, b.3)
+    ]
+
+lacks_front : (xs ys : List ℕ) → Lacks 10 (xs ++ ys) → Lacks 10 xs
+lacks_front [] ys h = tt
+lacks_front (x ∷ xs) ys h = (h.0, lacks_front xs ys h.1)
+
+open_line : (line front back : List ℕ) → Lacks 10 line → length line < 201 → line ≡ front ++ back → IsOpen front
+open_line line front back lacks short is = inl (record {
+  lacks = lacks_front front back (subst (Lacks 10) is lacks);
+  short = omega (arith, short, ap length is, length-append front back);
+})
+
+no_more : (m k : List ℕ) (b : ℕ) → [] ≡ m ++ (b ∷ k) → ⊥
+no_more m k b e = omega (arith, ap length e, length-append m (b ∷ k))
+
+-- a message without its end is open
+open_front : (i : Item) (front k : List ℕ) (b : ℕ) → IsMessage i → message_text i ≡ front ++ (b ∷ k) → IsOpen front
+open_front (SegmentItem n bytes) front k b h e =
+    elim (fronts front (b ∷ k) (line_of (forms.Content n (length bytes))) (10 ∷ (bytes ++ 10 ∷ [])) (sym e)) [
+      | inl a ↦ open_line (line_of (forms.Content n (length bytes))) front a.0
+          (line_lacks (forms.Content n (length bytes)) (h.0, few (length bytes) h.1)) (content_short n (length bytes) h.0 h.1) a.1
+      | inr x ↦
+          let feed : 10 ≡ x.0 = ap (λ (l : List ℕ). get_or l 0 0) x.3 in
+          let behind : bytes ++ 10 ∷ [] ≡ x.1 ++ (b ∷ k) = ap (drop 1) x.3 in
+          inr (record {
+            name = n;
+            len = length bytes;
+            behind = x.1;
+            is_name = h.0;
+            within = h.1;
+            rest_is = x.2 ∙ ap (λ c. line_of (forms.Content n (length bytes)) ++ (c ∷ x.1)) (sym feed);
+            short =
+                omega (arith, ap length behind, length-append bytes (10 ∷ []), length-append x.1 (b ∷ k));
+          })
+    ]
+open_front (RetirementItem n) front k b h e =
+    elim (fronts front (b ∷ k) (line_of (forms.Retirement n)) (10 ∷ []) (sym e)) [
+      | inl a ↦ open_line (line_of (forms.Retirement n)) front a.0 (line_lacks (forms.Retirement n) h) (retirement_short n h) a.1
+      | inr x ↦ absurd (no_more x.1 k b (ap (drop 1) x.3))
+    ]
+open_front (FloorItem n) front k b h e =
+    elim (fronts front (b ∷ k) (line_of (forms.Floor n)) (10 ∷ []) (sym e)) [
+      | inl a ↦ open_line (line_of (forms.Floor n)) front a.0 (line_lacks (forms.Floor n) h) (floor_short n h) a.1
+      | inr x ↦ absurd (no_more x.1 k b (ap (drop 1) x.3))
+    ]
+
+-- no message begins with what is bad
+pub bad_stays : (rest more s : List ℕ) (i : Item) → IsBad rest → IsMessage i → rest ++ more ≡ message_text i ++ s → ⊥
+bad_stays rest more s i bad h e =
+    elim (fronts rest more (message_text i) s e) [
+      | inl a ↦ by a.0 a.1
+      | inr x ↦ bad.none i (x.0 ∷ x.1) h x.2
+    ]
+  where
+    by : (k : List ℕ) → message_text i ≡ rest ++ k → ⊥
+    by [] is = bad.none i [] h (sym (append-nil rest) ∙ sym is ∙ sym (append-nil (message_text i)))
+    by (b ∷ k) is = bad.closed (open_front i rest k b h is)
