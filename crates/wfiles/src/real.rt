@@ -1,5 +1,6 @@
 //! The folder of a system. Each method makes the call that it notes, and notes what was answered: that is what the theorems over
-//! the record rest on, and no proof shows it.
+//! the record rest on, and no proof shows it. The file that is given an access, written or synced is the open one, that which was made
+//! last, and the path that is noted is its own: callers may pass no other.
 ghost use Rattle.std.specs.Prelude.{◌≡◌, ◌∷◌, is_ok, IfErr, OnOk};
 ghost use Rattle.wfiles.specs.Noting.{call_number, call_of};
 ghost use Rattle.wfolder.specs.Calls.{HasCause, NothingFailed};

@@ -148,6 +148,14 @@ IsOwn (calls.Moved from to true ∷ cs) name = (name ≢ from) × IsOwn cs name
 IsOwn (calls.Removed gone true ∷ cs) name = (name ≢ gone) × IsOwn cs name
 IsOwn (c ∷ cs) name = IsOwn cs name
 
+-- the name is that of the file that was made last, which still stands there, by the calls, the newest first
+abbrev pub IsMadeLast : List Call → List ℕ → Type 0
+IsMadeLast [] name = ⊥
+IsMadeLast (calls.Created made closed true ∷ cs) name = name ≡ made
+IsMadeLast (calls.Moved from to true ∷ cs) name = (name ≢ from) × (name ≢ to) × IsMadeLast cs name
+IsMadeLast (calls.Removed gone true ∷ cs) name = (name ≢ gone) × IsMadeLast cs name
+IsMadeLast (c ∷ cs) name = IsMadeLast cs name
+
 -- this run holds the lock of the folder under this path, by its calls, the newest first
 abbrev pub IsLocked : List ℕ → List Call → Type 0
 IsLocked folder [] = ⊥

@@ -3,6 +3,7 @@ ghost use Rattle.std.specs.Prelude.{◌≡◌, ◌≢◌, ◌∷◌, List, None,
 ghost use Rattle.wfolder.specs.Call.{Call, Listed, Created, Permitted, Wrote, Synced, Moved, SyncedFolder, Removed};
 ghost use Rattle.wfolder.specs.Call.{made_or_taken, rights_of};
 ghost use Rattle.wfolder.specs.Calls.{CallCounts, HasCause, NothingFailed};
+ghost use Rattle.wfolder.specs.Model.{IsMadeLast};
 ghost use Rattle.wfolder.specs.declared.fault.Fault.TheVariants.{NoMemory};
 
 use crate::fault::Fault;
@@ -21,7 +22,8 @@ pub struct Access {
 }
 
 /// A folder whose calls are recorded with their answers. What they do to the folder, and what a crash may leave of it, the
-/// definitions over this record say. Each fault has its cause in the counts.
+/// definitions over this record say. Each fault has its cause in the counts. Of the new files the one that was made last is open: it
+/// alone is given an access, written or synced, under the path that it was made under, and only while it stands there.
 pub trait Folder {
     /// The calls that were made, the newest first.
     ghost calls: { Self → List Call };
@@ -64,7 +66,8 @@ pub trait Folder {
 
     /// Gives the file that was made last, under this path, an owner, a group and a mode.
     fn permit(&mut self, path: &str, access: &Access) -> Result<(), Fault>
-        requires { NothingFailed (counts self.old) }
+        requires sound { NothingFailed (counts self.old) }
+        requires made { IsMadeLast (calls self.old) path.now }
         ensures calls { calls self.new ≡ Permitted path.now (rights_of access.now) (is_ok result) ∷ calls self.old }
         ensures kind { IfErr result (λ fault. fault ≢ Fault.Read) }
         ensures sound { OnOk result (NothingFailed (counts self.new)) }
@@ -72,7 +75,8 @@ pub trait Folder {
 
     /// Writes these bytes, all of them, at the end of the file that was made last, under this path.
     fn write(&mut self, path: &str, bytes: &[u8]) -> Result<(), Fault>
-        requires { NothingFailed (counts self.old) }
+        requires sound { NothingFailed (counts self.old) }
+        requires made { IsMadeLast (calls self.old) path.now }
         ensures calls { calls self.new ≡ Wrote path.now bytes.now (is_ok result) ∷ calls self.old }
         ensures kind { IfErr result (λ fault. fault ≢ Fault.Read) }
         ensures sound { OnOk result (NothingFailed (counts self.new)) }
@@ -80,7 +84,8 @@ pub trait Folder {
 
     /// Brings the file that was made last, under this path, to the disk.
     fn sync(&mut self, path: &str) -> Result<(), Fault>
-        requires { NothingFailed (counts self.old) }
+        requires sound { NothingFailed (counts self.old) }
+        requires made { IsMadeLast (calls self.old) path.now }
         ensures calls { calls self.new ≡ Synced path.now (is_ok result) ∷ calls self.old }
         ensures kind { IfErr result (λ fault. fault ≢ Fault.Read) }
         ensures sound { OnOk result (NothingFailed (counts self.new)) }

@@ -6,7 +6,7 @@ ghost use Rattle.wfolder.specs.Names.{IsNewBeside, IsNewName, numbered_path};
 ghost use Rattle.wfolder.specs.Order.{Beside, Brings, Clears, ClearsOne, GivesUp, Idle, LeavesBeside, LeavesIdle, Makes, MakesNew};
 ghost use Rattle.wfolder.specs.Order.{Placed, new_file};
 ghost use Rattle.wfolder.specs.Call.{SyncedFolder};
-ghost use Rattle.wfolder.specs.Model.{IsLocked};
+ghost use Rattle.wfolder.specs.Model.{IsLocked, IsMadeLast};
 ghost use Rattle.wfolder.specs.Replacing.{IsUnsynced, Replaces, fault_of};
 
 use crate::fault::Fault;
@@ -34,9 +34,11 @@ fn path_beside(alloc: Global, target: &Target, name: &str) -> Result<Option<Stri
 
 // Gives the new file the access of the old one, if there is one.
 fn allow<F: Folder>(folder: &mut F, target: &Target, new: &str) -> Result<(), Fault>
-    requires { NothingFailed (F.counts folder.old) }
+    requires sound { NothingFailed (F.counts folder.old) }
+    requires made { IsMadeLast (F.calls folder.old) new.now }
     ensures given { OnOk result (Brings target.now (F.calls folder.old) (new_file target.now new.now)
         (F.calls folder.new) (Beside new.now true (Some []) false)) }
+    ensures last { OnOk result (IsMadeLast (F.calls folder.new) new.now) }
     ensures left { IfErr result (λ fault. LeavesBeside target.now new.now fault (F.calls folder.old) (F.calls folder.new)) }
     ensures sound { OnOk result (NothingFailed (F.counts folder.new)) }
     ensures cause { IfErr result (λ fault. HasCause fault (F.counts folder.new)) }
@@ -49,7 +51,8 @@ fn allow<F: Folder>(folder: &mut F, target: &Target, new: &str) -> Result<(), Fa
 
 // The bytes, in the new file, on the disk.
 fn fill<F: Folder>(folder: &mut F, target: &Target, new: &str, bytes: &[u8]) -> Result<(), Fault>
-    requires { NothingFailed (F.counts folder.old) }
+    requires sound { NothingFailed (F.counts folder.old) }
+    requires made { IsMadeLast (F.calls folder.old) new.now }
     ensures filled { OnOk result (Brings target.now (F.calls folder.old) (new_file target.now new.now)
         (F.calls folder.new) (Beside new.now true (Some bytes.now) true)) }
     ensures left { IfErr result (λ fault. LeavesBeside target.now new.now fault (F.calls folder.old) (F.calls folder.new)) }
@@ -63,7 +66,8 @@ fn fill<F: Folder>(folder: &mut F, target: &Target, new: &str, bytes: &[u8]) -> 
 
 // The bytes in the new file, and then in the store's place.
 fn put<F: Folder>(folder: &mut F, target: &Target, new: &str, bytes: &[u8]) -> Result<(), Fault>
-    requires { NothingFailed (F.counts folder.old) }
+    requires sound { NothingFailed (F.counts folder.old) }
+    requires made { IsMadeLast (F.calls folder.old) new.now }
     ensures placed { OnOk result (Brings target.now (F.calls folder.old) (new_file target.now new.now)
         (F.calls folder.new) (Placed bytes.now)) }
     ensures left { IfErr result (λ fault. LeavesBeside target.now new.now fault (F.calls folder.old) (F.calls folder.new)) }
@@ -85,6 +89,7 @@ fn create_at<F: Folder>(
     requires other { string_bytes path ≢ target.now.path }
     ensures makes { IfOk result (λ found. MakesNew target.now (string_bytes path) (F.calls folder.old) (F.calls folder.new)
         (option_map (λ name. string_bytes name) found)) }
+    ensures last { IfOk result (λ found. IfSome found (λ name. IsMadeLast (F.calls folder.new) (string_bytes name))) }
     ensures idle { IfErr result (λ fault. GivesUp target.now fault (F.calls folder.old) (F.calls folder.new)) }
     ensures sound { OnOk result (NothingFailed (F.counts folder.new)) }
     ensures cause { IfErr result (λ fault. HasCause fault (F.counts folder.new)) }
@@ -106,6 +111,7 @@ fn try_new<F: Folder>(
     requires sound { NothingFailed (F.counts folder.old) }
     ensures makes { IfOk result (λ found. MakesNew target.now (numbered_path target.now.folder number) (F.calls folder.old)
         (F.calls folder.new) (option_map (λ name. string_bytes name) found)) }
+    ensures last { IfOk result (λ found. IfSome found (λ name. IsMadeLast (F.calls folder.new) (string_bytes name))) }
     ensures idle { IfErr result (λ fault. GivesUp target.now fault (F.calls folder.old) (F.calls folder.new)) }
     ensures sound { OnOk result (NothingFailed (F.counts folder.new)) }
     ensures cause { IfErr result (λ fault. HasCause fault (F.counts folder.new)) }
@@ -124,6 +130,7 @@ fn try_new<F: Folder>(
 fn make_new<F: Folder>(alloc: Global, folder: &mut F, target: &Target) -> Result<String, Fault>
     requires sound { NothingFailed (F.counts folder.old) }
     ensures made { IfOk result (λ name. Makes target.now (F.calls folder.old) (F.calls folder.new) (string_bytes name)) }
+    ensures last { IfOk result (λ name. IsMadeLast (F.calls folder.new) (string_bytes name)) }
     ensures idle { IfErr result (λ fault. GivesUp target.now fault (F.calls folder.old) (F.calls folder.new)) }
     ensures sound { OnOk result (NothingFailed (F.counts folder.new)) }
     ensures cause { IfErr result (λ fault. HasCause fault (F.counts folder.new)) }
@@ -186,6 +193,7 @@ fn begin<F: Folder>(alloc: Global, folder: &mut F, target: &Target) -> Result<St
     requires sound { NothingFailed (F.counts folder.old) }
     ensures made { IfOk result (λ name. Brings target.now (F.calls folder.old) Idle (F.calls folder.new)
         (new_file target.now (string_bytes name))) }
+    ensures last { IfOk result (λ name. IsMadeLast (F.calls folder.new) (string_bytes name)) }
     ensures idle { IfErr result (λ fault. LeavesIdle target.now fault (F.calls folder.old) (F.calls folder.new)) }
     ensures sound { OnOk result (NothingFailed (F.counts folder.new)) }
     ensures cause { IfErr result (λ fault. HasCause fault (F.counts folder.new)) }
