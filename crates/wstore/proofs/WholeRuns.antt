@@ -220,7 +220,7 @@ cut old h (s ∷ steps) rest part n ran begins =
 
 -- where a run stopped, what was said behind the replies begins what comes next
 stops_begins : (fault : RunFault) (reads : ℕ) (h : List Step) (rest part : List ℕ) → StopsRun fault reads h rest part → Begins h rest part
-stops_begins fault reads h rest part (inr stops) = subst (Begins h rest) (sym stops.2) nothing
+stops_begins fault reads h rest part (inr stops) = subst (Begins h rest) (sym stops.3) nothing
 stops_begins faults.Read reads h rest part (inl stops) = subst (Begins h rest) (sym stops) nothing
 stops_begins faults.Write reads h rest part (inl stops) = stops
 stops_begins faults.NoMemory reads h rest part (inl stops) = subst (Begins h rest) (sym stops.0) nothing
@@ -315,7 +315,7 @@ run_not_begun reads (Some xs) held none = (
     part = [];
     ran = refl;
     stops =
-        inr (refl, none, refl);
+        inr (refl, none, refl, refl);
     input_is = refl;
     output_is = refl;
   },

@@ -66,9 +66,9 @@ Stops Read h rest part = part ≡ []
 Stops Write h rest part = Begins h rest part
 Stops NoMemory h rest part = (part ≡ []) × IsDeclaring h rest
 
--- it comes also where nothing was read yet
+-- it comes also where nothing was read yet, and so nothing was answered
 abbrev pub StopsRun : RunFault → ℕ → List Step → List ℕ → List ℕ → Type 0
-StopsRun fault reads h rest part = Stops fault h rest part ⊎ ((fault ≡ NoMemory) × (reads ≡ 0) × (part ≡ []))
+StopsRun fault reads h rest part = Stops fault h rest part ⊎ ((fault ≡ NoMemory) × (reads ≡ 0) × (h ≡ []) × (part ≡ []))
 
 -- after so many reads a fault ended the run, and the output is a beginning of the replies to the commands that begin the input
 pub record RepliesBegun (fault : RunFault) (reads : ℕ) (input output : List ℕ) : Type 0 where
