@@ -1,7 +1,8 @@
 -- What a shell gives on the files that it reads.
-use Rattle.std.proofs.Common.{◌≡◌, ℕ, Bool, List, [], ◌∷◌, Option, Some, Result, Ok, Err, IfOk, IfErr, OnErr, IfSome, subst, ap, ◌∙◌}
+use Rattle.std.proofs.Common.{◌≡◌, ℕ, Bool, List, [], ◌∷◌, Option, Some, Result, Ok, Err, IfOk, IfErr, OnErr, OnOk, IfSome, subst, ap, ◌∙◌}
 use Rattle.std.specs.Io.KnownBytes.{Appends}
 use Rattle.wvalues.specs.Counts.{Counts}
+use Rattle.wlines.specs.Pending.{IsSound, IsSoundWriter}
 use Rattle.wfolder.specs.Call.{Call, Began, Found}
 use Rattle.wfiles.specs.Reading.{ReadsAtMost, Front, Whole}
 use Rattle.wfolder.specs.declared.fault.Fault.{Fault}
@@ -56,6 +57,7 @@ pub run_outcome : {I W : Type 0} (node : NodeState) (left new_left : Option (Lis
     → IfErr end (λ fault. IfSome left (λ bytes. (written : List ℕ) × Appends old new written
     × runs.RepliesBegun node.schema node.view fault bytes written))
     → IfErr end (λ fault. fault ≡ ends.Read → runs.KeepsUp node.schema node.view left new_left old new)
-    → IfErr end (λ fault. runs.HasCause fault input output) → IsRun node left new_left input old new output end
-run_outcome node left new_left input old new output (Ok is_refused) replies begun prompt cause = replies
-run_outcome node left new_left input old new output (Err fault) replies begun prompt cause = (begun, prompt, cause)
+    → OnOk end (IsSound input × IsSoundWriter output) → IfErr end (λ fault. runs.HasCause fault input output)
+    → IsRun node left new_left input old new output end
+run_outcome node left new_left input old new output (Ok is_refused) replies begun prompt sound cause = (replies, sound)
+run_outcome node left new_left input old new output (Err fault) replies begun prompt sound cause = (begun, prompt, cause)

@@ -2,6 +2,7 @@
 use Rattle.std.specs.Prelude.{◌≡◌, ℕ, Bool, true, false, List, Option, Result, Ok, Err, take, IfSome}
 use Rattle.std.specs.Io.KnownBytes.{Appends, Keeps}
 use Rattle.wvalues.specs.Counts.{Counts}
+use Rattle.wlines.specs.Pending.{IsSound, IsSoundWriter}
 use Rattle.wreplies.specs.Texts.{bytes_of}
 use Rattle.wfolder.specs.Call.{Call}
 use Rattle.wfolder.specs.Calls.{CallCounts, HasCause}
@@ -35,11 +36,13 @@ pub data IsRefusal (text : List ℕ) (old new : Option (List ℕ)) (failures sta
   Printed : Appends old new text → status ≡ 1 → IsRefusal text old new failures status
   Unwritten : (n : ℕ) → Appends old new (take n text) → failures ≡ 1 → status ≡ 3 → IsRefusal text old new failures status
 
--- what a run on the queries of an input has written, where it ended so; where a read failed, no reply waited for it
+-- what a run on the queries of an input has written, where it ended so, and that nothing failed; or at a fault a beginning of that, and
+-- the fault has its cause. Where a read failed, no reply waited for it
 abbrev pub IsRun : {I W : Type 0} → NodeState → Option (List ℕ) → Option (List ℕ) → Counts I → Option (List ℕ)
     → Option (List ℕ) → Counts W → Result Bool ShellFault → Type 0
-IsRun node left new_left input old new output (Ok is_refused) = IfSome left (λ bytes. (written : List ℕ)
-    × Appends old new written × runs.Replies node.schema node.view bytes written is_refused)
+IsRun node left new_left input old new output (Ok is_refused) =
+    IfSome left (λ bytes. (written : List ℕ) × Appends old new written × runs.Replies node.schema node.view bytes written is_refused)
+    × (IsSound input × IsSoundWriter output)
 IsRun node left new_left input old new output (Err fault) =
     IfSome left (λ bytes. (written : List ℕ) × Appends old new written × runs.RepliesBegun node.schema node.view fault bytes written)
     × (fault ≡ faults.Read → runs.KeepsUp node.schema node.view left new_left old new)
