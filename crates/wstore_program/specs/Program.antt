@@ -5,7 +5,7 @@ use Rattle.std.specs.Io.KnownBytes.{Appends}
 use Rattle.wvalues.specs.Counts.{Counts}
 use Rattle.wlines.specs.Pending.{IsSound, IsSoundWriter}
 use Rattle.wfolder.specs.Call.{Call}
-use Rattle.wfolder.specs.Calls.{CallCounts}
+use Rattle.wfolder.specs.Calls.{CallCounts, NothingFailed}
 use Rattle.wcommand.specs.Choices.{Chooses}
 use Rattle.wcommand.specs.Inputs.{is_act}
 use Rattle.wcommand.specs.declared.choice.Choice.{Choice}
@@ -46,7 +46,7 @@ pub data DoesChoice {I W : Type 0} (choice : Choice) (counts : CallCounts) (befo
   Shell : (paths : Paths) → choice ≡ choices.Shell paths
       → HasShellStatus paths counts before after left new_left input old new output status
       → DoesChoice choice counts before after left new_left input old new output status
-  Act : is_act choice ≡ true → new_left ≡ left → HasFileStatus choice counts before after old new status
+  Act : is_act choice ≡ true → new_left ≡ left → HasFileStatus choice counts before after old new output.failures status
       → DoesChoice choice counts before after left new_left input old new output status
 
 -- what the words choose is done; or, where they choose nothing, what is wrong with them is told, or what they ask for, and neither
@@ -56,6 +56,6 @@ pub data DoesWords {I W : Type 0} (words : List (List ℕ)) (counts : CallCounts
   Chosen : (choice : Choice) → Chooses words (Ok choice)
       → DoesChoice choice counts before after left new_left input old new output status
       → DoesWords words counts before after left new_left input old new output status
-  Told : (fault : WordsFault) → Chooses words (Err fault) → after ≡ before → new_left ≡ left
-      → HasWordsStatus fault counts old new status
+  Told : (fault : WordsFault) → Chooses words (Err fault) → after ≡ before → new_left ≡ left → NothingFailed counts
+      → HasWordsStatus fault old new output.failures status
       → DoesWords words counts before after left new_left input old new output status

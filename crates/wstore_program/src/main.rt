@@ -18,15 +18,17 @@ mod explaining;
 mod feeding;
 mod given;
 mod opening;
+mod printing;
 mod shelling;
 mod work;
 
 use acting::perform;
+use printing::write_whole;
 use shelling::run_shell;
 use std::alloc::{AllocError, Global};
 use std::env;
 use std::fs::File;
-use std::io::{ErrorKind, Read, Write};
+use std::io::{self, ErrorKind, Read, Write};
 use std::process::ExitCode;
 use std::rt::{Clock, Files};
 use wcommand::{Choice, Paths, WordsFault, choose};
@@ -62,15 +64,22 @@ fn failed(rt: &impl Eprint, fault: Fault) -> ExitCode
     fault_status()
 }
 
+// The status of a fault whose name and reason are written to standard error.
+fn failed_for(rt: &impl Eprint, fault: Fault, reason: io::Error) -> ExitCode
+    ensures { exit_status result ≡ 3 }
+{
+    let _ = eprintln!(rt; "{fault}: {reason}");
+    fault_status()
+}
+
 // The status of a fault on files, whose name and reason are written to standard error.
 fn failed_on<R>(rt: &impl Eprint, system: &System<'_, R>, fault: Fault) -> ExitCode
     ensures { exit_status result ≡ 3 }
 {
-    let Some(reason) = system.reason() else {
-        return failed(rt, fault);
-    };
-    let _ = eprintln!(rt; "{fault}: {reason}");
-    fault_status()
+    match system.reason() {
+        Some(reason) => failed_for(rt, fault, reason),
+        None => failed(rt, fault),
+    }
 }
 
 // The status of a script's end.
@@ -117,19 +126,14 @@ fn run_session<I: Read, W: Write>(
 }
 
 // Prints a text, with the status of what was done.
-fn print<R, W: Write>(
-    rt: &impl Eprint,
-    system: &mut System<'_, R>,
-    output: &mut W,
-    text: &[u8],
-    done: u8,
-) -> ExitCode
-    requires { NothingFailed system.old }
-    ensures { IsPrinted text.now done system.new (W.contents output.old) (W.contents output.new) (exit_status result) }
+fn print<W: Write>(rt: &impl Eprint, output: &mut Counted<W>, text: &[u8], done: u8) -> ExitCode
+    requires { IsNew output.old }
+    ensures { IsPrinted text.now done (W.contents output.old.inner) (W.contents output.new.inner) output.new.failures
+        (exit_status result) }
 {
-    match system.write(output, text) {
+    match write_whole(output, text) {
         Ok(()) => ExitCode::from(done),
-        Err(fault) => failed_on(rt, system, fault),
+        Err(reason) => failed_for(rt, Fault::Write, reason),
     }
 }
 
@@ -138,34 +142,31 @@ fn run_on_files<R: Files<File = File> + AllocGlobal + Clock + Eprint, W: Write>(
     rt: &R,
     system: &mut System<'_, R>,
     calls: &mut Record,
-    output: &mut W,
+    output: &mut Counted<W>,
     choice: &Choice<'_>,
     paths: Paths<'_>,
 ) -> ExitCode
     requires choice { is_act choice.now ≡ true }
     requires named { paths_of choice.now ≡ Some paths }
     requires sound { NothingFailed system.old }
-    ensures { HasFileStatus choice.now system.new calls.old.calls calls.new.calls (W.contents output.old)
-        (W.contents output.new) (exit_status result) }
+    requires output { IsNew output.old }
+    ensures { HasFileStatus choice.now system.new calls.old.calls calls.new.calls (W.contents output.old.inner)
+        (W.contents output.new.inner) output.new.failures (exit_status result) }
 {
     match perform(rt, system, calls, choice, paths) {
-        Ok(acted) => print(rt, system, output, acted.output.as_slice(), acted.status),
+        Ok(acted) => print(rt, output, acted.output.as_slice(), acted.status),
         Err(fault) => failed_on(rt, system, fault),
     }
 }
 
 // Prints why the words choose nothing, or what they ask for.
-fn tell<R, W: Write>(
-    rt: &impl Eprint,
-    system: &mut System<'_, R>,
-    output: &mut W,
-    fault: WordsFault,
-) -> ExitCode
-    requires { NothingFailed system.old }
-    ensures { HasWordsStatus fault system.new (W.contents output.old) (W.contents output.new) (exit_status result) }
+fn tell<W: Write>(rt: &impl Eprint, output: &mut Counted<W>, fault: WordsFault) -> ExitCode
+    requires { IsNew output.old }
+    ensures { HasWordsStatus fault (W.contents output.old.inner) (W.contents output.new.inner) output.new.failures
+        (exit_status result) }
 {
     match fault {
-        WordsFault::Help(text) => print(rt, system, output, text.as_bytes(), DONE),
+        WordsFault::Help(text) => print(rt, output, text.as_bytes(), DONE),
         WordsFault::Refused(text) => {
             let _ = eprint!(rt; "{text}");
             ExitCode::from(MISUNDERSTOOD)
@@ -222,12 +223,12 @@ fn run_choice<R: Files<File = File> + AllocGlobal + Clock + Eprint, I: Read, W: 
     if !choice.is_act() {
         return answer_input(rt, system, calls, input, output, paths);
     }
-    let mut output = output.into_inner();
+    let mut output = output;
     let status = run_on_files(rt, system, calls, &mut output, choice, paths);
     Outcome {
         status,
         input,
-        output: Counted::new(output),
+        output,
     }
 }
 
@@ -251,12 +252,12 @@ fn run_words<R: Files<File = File> + AllocGlobal + Clock + Eprint, I: Read, W: W
         Ok(choice) => return run_choice(rt, system, calls, input, output, &choice),
         Err(fault) => fault,
     };
-    let mut output = output.into_inner();
-    let status = tell(rt, system, &mut output, fault);
+    let mut output = output;
+    let status = tell(rt, &mut output, fault);
     Outcome {
         status,
         input,
-        output: Counted::new(output),
+        output,
     }
 }
 

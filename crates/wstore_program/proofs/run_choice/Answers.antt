@@ -8,5 +8,4 @@ returns-then-not-is_act g c = Shell c.in-Some.paths
     (is_shell c.args.choice.now c.in-Some.paths (sym c.in-Some.ensures) (sym c.if-not-is_act.ensures)) c.answer_input.ensures
 
 pub returns : goal.returns
-returns g c = Act (sym c.if-not-is_act.ensures) refl
-    (rw c.new.ensures (rw c.into_inner-output.ensures at c.run_on_files-status.ensures))
+returns g c = Act (sym c.if-not-is_act.ensures) refl c.run_on_files-status.ensures

@@ -6,5 +6,4 @@ pub returns-in-Ok : goal.returns-in-Ok
 returns-in-Ok g c = Chosen c.in-Ok.choice c.in-Ok.ensures.chosen c.run_choice.ensures
 
 pub returns : goal.returns
-returns g c = Told c.in-Err.fault c.in-Err.ensures.chosen refl refl
-    (rw c.new.ensures (rw c.into_inner-output.ensures at c.tell-status.ensures))
+returns g c = Told c.in-Err.fault c.in-Err.ensures.chosen refl refl c.requires.sound c.tell-status.ensures
