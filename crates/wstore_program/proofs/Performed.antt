@@ -1,5 +1,5 @@
 -- What is done on the bytes that were read, and what becomes of the store then.
-use Rattle.std.proofs.Common.{◌≡◌, ◌∙◌, inl, inr, refl, sym, ap, subst, ℕ, true, false, List, [], ◌∷◌, Option}
+use Rattle.std.proofs.Common.{◌≡◌, ◌≢◌, ◌∙◌, inl, refl, sym, ap, subst, ℕ, true, false, List, ◌∷◌, Option}
 use Rattle.std.proofs.Common.{None, Some, Result, Ok, Err, IfOk, IfErr, OnErr, is_some, true≢false, nat_eq, option_map, Vec, Global}
 use Rattle.std.specs.Cmp.Lexicographic.{pointwise, same_text}
 use Rattle.std.specs.Option.{option_eq}
@@ -7,7 +7,7 @@ use Rattle.std.specs.Borrow.{Bor}
 use Rattle.wcommand.specs.declared.choice.Choice.{Choice}
 use Rattle.wcommand.specs.declared.choice.Paths.{Paths}
 use Rattle.wcommand.specs.Inputs.{input_of, paths_of}
-use Rattle.wfolder.specs.Call.{Call, Began, Found}
+use Rattle.wfolder.specs.Call.{Call, Found}
 use Rattle.wfiles.specs.Place.{FindsSite, MissesFile, StandsBehind, lock_behind, read_at}
 use Rattle.wfiles.specs.Reading.{MayBegin, ReadsAtMost, Front, Whole}
 use Rattle.wfolder.specs.Names.{IsSited, Site}
@@ -18,17 +18,12 @@ use Rattle.wfolder.specs.declared.replacing.NotReplaced.{NotReplaced}
 use Rattle.wact.specs.declared.acted.Acted.{Acted}
 use Rattle.wact.specs.Acts.{Acts}
 use Rattle.wact.specs.Laws.{IsTake}
-use Rattle.wstore_program.specs.Performing.{Bytes, Input, Long, IsDone, IsGivenUp, IsUndone, IsNotCarriedOut, NotPut}
-use Rattle.wstore_program.specs.Performing.{OnlyReads, Put, Puts, ReadsInput, ReadsBytes, CarriesOut, Unchanged, Undone, Unfound, Unread}
+use Rattle.wstore_program.specs.Performing.{Bytes, CarriesOut, GivesNew, Input, IsDone, IsEnded, IsFinished, IsNotPut, IsUndone, Long}
+use Rattle.wstore_program.specs.Performing.{MissesInput, NotCarriedOut, NotPut, Performs, Put, Puts, ReadsBytes, ReadsFiles, ReadsInput}
+use Rattle.wstore_program.specs.Performing.{Unchanged, Undone, Unfound, Unready, Untouched, input_path, new_store, read_locked}
 use Rattle.wstore_program.specs.Working.{store_bytes}
-use Rattle.wstore_program.specs.Performing.{IsEnded, IsFinished, NotCarriedOut, Performs, Untouched, input_path, new_store}
-use Rattle.wstore_program.specs.Performing.{ReadsFiles, Unready, read_locked}
 
 -- where a call gives a fault
-pub on_err : {A E : Type 0} {P : Type 0} (r : Result A E) → P → OnErr r P
-on_err (Ok v) p = tt
-on_err (Err e) p = p
-
 pub if_err : {A E : Type 0} {P : E → Type 0} (r : Result A E) → ((e : E) → P e) → IfErr r P
 if_err (Ok v) p = tt
 if_err (Err e) p = p e
@@ -45,41 +40,21 @@ pub grown_is : {A E : Type 0} (P : A → Type 0) (made : Result A E) (r : Result
 grown_is P (Ok v) r value is refused got p = subst P (one_value r v value is got) p
 grown_is P (Err e) r value is refused got p = absurd (not_both r value got refused)
 
+-- and its fault is want of memory
+pub lacks_of : {A E : Type 0} (made : Result A E) (r : Result A Fault) (fault : Fault) → IfOk made (λ v. r ≡ Ok v)
+    → OnErr made (r ≡ Err faults.NoMemory) → r ≡ Err fault → fault ≡ faults.NoMemory
+lacks_of (Ok v) r fault is refused got = absurd (ok_err r v fault is got)
+  where
+    ok_err : {A : Type 0} (r : Result A Fault) (v : A) (fault : Fault) → r ≡ Ok v → r ≡ Err fault → ⊥
+    ok_err r v fault e f = cc
+lacks_of (Err e) r fault is refused got = cc
+
+pub grown_lacks : {A E : Type 0} (made : Result A E) (r : Result A Fault) → IfOk made (λ v. r ≡ Ok v)
+    → OnErr made (r ≡ Err faults.NoMemory) → IfErr r (λ fault. fault ≡ faults.NoMemory)
+grown_lacks made (Ok v) is refused = tt
+grown_lacks made (Err fault) is refused = lacks_of made (Err fault) fault is refused refl
+
 -- ---- what is read
-
--- nothing
-pub no_readings : (old new : List Call) → new ≡ old → OnlyReads old new
-no_readings old new is = record { since = []; is = is; readings = tt }
-
--- a file, or not to its end
-pub begins : (path : List ℕ) (old new : List Call) → MayBegin path old new → OnlyReads old new
-begins path old new (inl same) = no_readings old new same
-begins path old new (inr more) = record { since = Began path more.0 ∷ []; is = more.1; readings = tt }
-
--- the same behind another
-pub begins_behind : (name path : List ℕ) (held : Option (List ℕ)) (old read new : List Call) → read ≡ Found name held ∷ old
-    → MayBegin path read new → OnlyReads old new
-begins_behind name path held old read new is (inl same) = record { since = Found name held ∷ []; is = same ∙ is; readings = tt }
-begins_behind name path held old read new is (inr more) = record {
-  since = Began path more.0 ∷ Found name held ∷ [];
-  is = more.1 ∙ ap (λ cs. Began path more.0 ∷ cs) is;
-  readings = tt;
-}
-
--- the same behind one of which no more than so many bytes are wanted
-pub begins_behind_most : (name path : List ℕ) (most : ℕ) (bytes : List ℕ) (old read new : List Call)
-    → ReadsAtMost name most bytes old read → MayBegin path read new → OnlyReads old new
-begins_behind_most name path most bytes old read new (Whole is) begun = begins_behind name path (Some bytes) old read new is begun
-begins_behind_most name path most bytes old read new (Front long is) (inl same) = record {
-  since = Began name bytes ∷ [];
-  is = same ∙ is;
-  readings = tt;
-}
-begins_behind_most name path most bytes old read new (Front long is) (inr more) = record {
-  since = Began path more.0 ∷ Began name bytes ∷ [];
-  is = more.1 ∙ ap (λ cs. Began path more.0 ∷ cs) is;
-  readings = tt;
-}
 
 -- the path of an input that is there
 pub path_is : (choice : Choice) (path : Bor (List ℕ)) → input_of choice ≡ Some path → input_path choice ≡ Some path.now
@@ -101,10 +76,10 @@ rows_read choice path old new (Ok bytes) items take is (Whole found) = Input pat
 rows_read choice path old new (Ok bytes) items take is (Front long began) = Long path take is long began
 
 -- or not to its end
-pub input_unread : {A : Type 0} (path : List ℕ) (old new : List Call) (r : Result A Fault) → OnErr r (MayBegin path old new)
-    → OnErr r (OnlyReads old new)
-input_unread path old new (Ok bytes) begun = tt
-input_unread path old new (Err fault) begun = begins path old new begun
+pub input_unread : {A : Type 0} (choice : Choice) (path : List ℕ) (old new : List Call) (r : Result A Fault)
+    → input_path choice ≡ Some path → OnErr r (MayBegin path old new) → OnErr r (MissesInput choice old new)
+input_unread choice path old new (Ok bytes) is begun = tt
+input_unread choice path old new (Err fault) is begun = (path, is, begun)
 
 -- ---- what becomes of the store
 
@@ -128,7 +103,7 @@ found_locked path behind site folder held old locked read same l r =
 -- a store that is not read to its end
 pub unfound : (choice : Choice) (path table other : List ℕ) (found site : Site) (fault : Fault) (old locked new : List Call)
     → FindsSite path found old locked → IsSited site → site.path ≡ found.path → site.folder ≡ found.folder
-    → MissesFile site locked new → IsNotCarriedOut choice path table other fault old new
+    → MissesFile site locked new → IsNotPut choice path table other fault old new
 unfound choice path table other found site fault old locked new finds sited p f begun =
     Unfound finds.0 site (stands_still path finds.0 found site p f finds.1) sited
     (subst (λ cs. MissesFile site cs new) (locked_still path finds.0 site found.folder old locked f finds.2) begun)
@@ -136,18 +111,19 @@ unfound choice path table other found site fault old locked new finds sited p f 
 -- a store on which nothing more is done
 pub unchanged : (choice : Choice) (path table other : List ℕ) (found site : Site) (held : Option (List ℕ)) (fault : Fault)
     (old locked read : List Call) → FindsSite path found old locked → IsSited site → site.path ≡ found.path
-    → site.folder ≡ found.folder → read ≡ read_at site held locked → IsNotCarriedOut choice path table other fault old read
+    → site.folder ≡ found.folder → read ≡ read_at site held locked → IsNotPut choice path table other fault old read
 unchanged choice path table other found site held fault old locked read finds sited p f r =
     Unchanged finds.0 site held (stands_still path finds.0 found site p f finds.1) sited
     (found_locked path finds.0 site found.folder held old locked read f finds.2 r)
 
 -- a new store is put in the place of what was read
 pub put_in_place : (choice : Choice) (acted : Acted) (path table : List ℕ) (store held : Option (List ℕ)) (other : List ℕ)
-    (found site : Site) (old locked read new : List Call) → FindsSite path found old locked → IsSited site → site.path ≡ found.path
-    → site.folder ≡ found.folder → Acts choice table held other acted → read ≡ read_at site held locked
-    → Puts site (new_store acted) (Ok tt) read new → CarriesOut choice path table store other acted old new
-put_in_place choice acted path table store held other found site old locked read new finds sited p f acts r puts =
-    Put finds.0 site held (stands_still path finds.0 found site p f finds.1) sited acts
+    (found site : Site) (old locked read new : List Call) → GivesNew choice table store other → FindsSite path found old locked
+    → IsSited site → site.path ≡ found.path → site.folder ≡ found.folder → Acts choice table held other acted
+    → read ≡ read_at site held locked → Puts site (new_store acted) (Ok tt) read new
+    → CarriesOut choice path table store other acted old new
+put_in_place choice acted path table store held other found site old locked read new gives finds sited p f acts r puts =
+    Put finds.0 site held gives (stands_still path finds.0 found site p f finds.1) sited acts
     (subst (λ cs. Puts site (new_store acted) (Ok tt) cs new)
     (found_locked path finds.0 site found.folder held old locked read f finds.2 r) puts)
 
@@ -155,7 +131,7 @@ put_in_place choice acted path table store held other found site old locked read
 pub not_put : (choice : Choice) (acted : Acted) (path table : List ℕ) (held : Option (List ℕ)) (other : List ℕ) (found site : Site)
     (old locked read new : List Call) (why : NotReplaced) (fault : Fault) → FindsSite path found old locked → IsSited site
     → site.path ≡ found.path → site.folder ≡ found.folder → Acts choice table held other acted → read ≡ read_at site held locked
-    → Puts site (new_store acted) (Err why) read new → fault ≡ fault_of why → IsNotCarriedOut choice path table other fault old new
+    → Puts site (new_store acted) (Err why) read new → fault ≡ fault_of why → IsNotPut choice path table other fault old new
 not_put choice acted path table held other found site old locked read new why fault finds sited p f acts r puts is =
     NotPut finds.0 site held acted why (stands_still path finds.0 found site p f finds.1) sited acts is
     (subst (λ cs. Puts site (new_store acted) (Err why) cs new)
@@ -165,7 +141,15 @@ none_mapped : {A B : Type 0} (f : A → B) (o : Option A) → is_some o ≡ fals
 none_mapped f None e = refl
 none_mapped f (Some v) e = absurd (true≢false e)
 
--- there is no new store
+some_mapped : {A B : Type 0} (f : A → B) (o : Option A) → is_some o ≡ true → option_map f o ≢ None
+some_mapped f None e = absurd (true≢false (sym e))
+some_mapped f (Some v) e = λ none. cc
+
+-- there is a new store
+pub is_new : (acted : Acted) → is_some acted.store ≡ true → new_store acted ≢ None
+is_new acted e = some_mapped _ acted.store e
+
+-- there is none
 pub untouched : (choice : Choice) (acted : Acted) (path table : List ℕ) (store : Option (List ℕ)) (other : List ℕ)
     (calls : List Call) → Acts choice table store other acted → is_some acted.store ≡ false
     → CarriesOut choice path table store other acted calls calls
@@ -201,9 +185,9 @@ fed_whole choice place table store path stream old read new r named found finish
     ended_by choice place table store stream old read new r (Bytes (Input path named found)) finished
 
 -- nothing was done yet
-pub undone_at_once : (choice : Choice) (place table : List ℕ) (store : Option (List ℕ)) (fault : Fault) (calls : List Call)
-    → IsUndone choice place table store fault calls calls
-undone_at_once choice place table store fault calls = Unready (no_readings calls calls refl)
+pub undone_at_once : (choice : Choice) (place table : List ℕ) (store : Option (List ℕ)) (path : List ℕ) (fault : Fault)
+    (calls : List Call) → input_path choice ≡ Some path → IsUndone choice place table store fault calls calls
+undone_at_once choice place table store path fault calls named = Unready (path, named, inl refl)
 
 -- bytes that are lent
 pub ended_on_bytes : (choice : Choice) (place table : List ℕ) (store : Option (List ℕ)) (lent other : List ℕ)
@@ -235,13 +219,3 @@ performed_by choice paths lent table store old first read new (Ok acted) named s
   files = files_read paths table store old first read t s;
   done = subst (λ (bytes : List ℕ). IsDone choice paths.store.now bytes store acted read new) same done;
 }
-
--- the table or the store is not read
-pub table_unread : (choice : Choice) (path : List ℕ) (fault : Fault) (old new : List Call) → MayBegin path old new
-    → IsGivenUp choice fault old new
-table_unread choice path fault old new begun = Unread (begins path old new begun)
-
-pub store_unread : (choice : Choice) (name path : List ℕ) (most : ℕ) (table : List ℕ) (fault : Fault) (old read new : List Call)
-    → ReadsAtMost name most table old read → MayBegin path read new → IsGivenUp choice fault old new
-store_unread choice name path most table fault old read new is begun =
-    Unread (begins_behind_most name path most table old read new is begun)

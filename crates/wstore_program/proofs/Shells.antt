@@ -1,11 +1,12 @@
 -- What a shell gives on the files that it reads.
-use Rattle.std.proofs.Common.{◌≡◌, ℕ, Bool, List, [], ◌∷◌, Option, Some, Result, Ok, Err, IfOk, IfErr, OnErr, OnOk, IfSome, subst, ap, ◌∙◌}
+use Rattle.std.proofs.Common.{◌≡◌, ℕ, Bool, List, ◌∷◌, Option, Result, Ok, Err, IfOk, IfErr, OnOk, IfSome, subst}
 use Rattle.std.specs.Io.KnownBytes.{Appends}
 use Rattle.wvalues.specs.Counts.{Counts}
 use Rattle.wlines.specs.Pending.{IsSound, IsSoundWriter}
-use Rattle.wfolder.specs.Call.{Call, Began, Found}
-use Rattle.wfiles.specs.Reading.{ReadsAtMost, Front, Whole}
+use Rattle.wfolder.specs.Call.{Call, Found}
+use Rattle.wfiles.specs.Reading.{ReadsAtMost}
 use Rattle.wfolder.specs.declared.fault.Fault.{Fault}
+use Rattle.wfolder.specs.declared.fault.Fault.TheVariants as causes
 use Rattle.wcommand.specs.declared.choice.Paths.{Paths}
 use Rattle.wact.specs.Opening.{Opens}
 use Rattle.wact.specs.declared.opening.Opened.{Opened}
@@ -13,8 +14,7 @@ use Rattle.wstore.specs.Nodes.{NodeState}
 use Rattle.wshell.specs.Runs as runs
 use Rattle.wshell.specs.declared.fault.ShellFault.{ShellFault}
 use Rattle.wshell.specs.declared.fault.ShellFault.TheVariants as ends
-use Rattle.wstore_program.specs.Performing.{OnlyReads}
-use Rattle.wstore_program.specs.Shelling.{IsOpened, IsRun}
+use Rattle.wstore_program.specs.Shelling.{IsOpened, IsRun, IsUnopened, Unmade}
 use Rattle.wstore_program.proofs.Performed.{files_read}
 
 -- what is opened on the files that were read
@@ -34,20 +34,10 @@ opened paths lent table store old first read (Err fault) same t s opens = tt
 -- or there was no memory to open it
 pub unopened : {A : Type 0} (paths : Paths) (table : List ℕ) (store : Option (List ℕ)) (old first read : List Call)
     (result : Result A Fault) → ReadsAtMost paths.table.now 65536 table old first → read ≡ Found paths.store.now store ∷ first
-    → OnErr result (OnlyReads old read)
-unopened paths table store old first read (Ok o) t s = tt
-unopened paths table store old first read (Err fault) (Whole t) s =
-    record {
-      since = Found paths.store.now store ∷ Found paths.table.now (Some table) ∷ [];
-      is = s ∙ ap (λ cs. Found paths.store.now store ∷ cs) t;
-      readings = tt;
-    }
-unopened paths table store old first read (Err fault) (Front long t) s =
-    record {
-      since = Found paths.store.now store ∷ Began paths.table.now table ∷ [];
-      is = s ∙ ap (λ cs. Found paths.store.now store ∷ cs) t;
-      readings = tt;
-    }
+    → IfErr result (λ fault. fault ≡ causes.NoMemory) → IfErr result (λ fault. IsUnopened paths fault old read)
+unopened paths table store old first read (Ok o) t s lacks = tt
+unopened paths table store old first read (Err fault) t s lacks =
+    Unmade table store lacks (files_read paths table store old first read t s)
 
 -- how a run ended
 pub run_outcome : {I W : Type 0} (node : NodeState) (left new_left : Option (List ℕ)) (input : Counts I)

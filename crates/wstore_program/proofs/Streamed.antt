@@ -1,6 +1,6 @@
 -- A stream that is fed to a store.
 use Rattle.std.proofs.Common.{◌≡◌, ◌≢◌, ◌∙◌, ◌⊎◌, inl, inr, refl, sym, ap, subst, ℕ, ◌≤◌, false, List, [], ◌∷◌, ◌++◌, length}
-use Rattle.std.proofs.Common.{take, append-nil, Option, None, Some, Result, Ok, Err, IfOk, IfSome, IfNone, is_some}
+use Rattle.std.proofs.Common.{take, append-nil, Option, None, Some, Result, Ok, Err, IfOk, IfErr, IfSome, IfNone, is_some}
 use Rattle.std.specs.Io.KnownBytes.{Consumes, IsAtEnd}
 use Rattle.std.proofs.KnownBytes.{Consumes-trans}
 use Rattle.wsegment.specs.Declaration.{Declaration}
@@ -10,10 +10,11 @@ use Rattle.wbatch.specs.Streams.{IsUndelivered, Stops}
 use Rattle.wbatch.specs.declared.stop.Stop.{Stop}
 use Rattle.wbatch.specs.declared.stop.Stop.TheVariants as stops
 use Rattle.wcommand.specs.declared.choice.Choice.{Choice}
-use Rattle.wfolder.specs.Call.{Call, Began, Found}
+use Rattle.wfolder.specs.Call.{Call, Began}
 use Rattle.wfiles.specs.Noting.{read_on}
 use Rattle.wfiles.specs.Reading.{read_more, read_to_end}
 use Rattle.wfolder.specs.declared.fault.Fault.{Fault}
+use Rattle.wfolder.specs.declared.fault.Fault.TheVariants as faults
 use Rattle.wfiles.proofs.Noting.{found_whole, reads_end, reads_on}
 use Rattle.wreplies.specs.Texts.{bytes_of}
 use Rattle.wreplies.specs.declared.text.Text.{Text}
@@ -26,7 +27,8 @@ use Rattle.wact.specs.Outcomes.{IsRefused}
 use Rattle.wact.specs.Streams.{Feeds}
 use Rattle.wact.proofs.Delivering.{acts_opened, acts_refused, feeds_refused}
 use Rattle.wstore_program.specs.Feeding.{AtEnd, ByAll, ByFront, InFront, IsRefusedStream, RefusesRead}
-use Rattle.wstore_program.specs.Performing.{Bytes, Front, Input, IsDone, IsEnded, Nothing, OnlyReads, CarriesOut, Unready, input_path}
+use Rattle.wstore_program.specs.Performing.{Bytes, Front, Input, IsDone, IsEnded, NotCarriedOut, Nothing, CarriesOut, Unmade, Unready}
+use Rattle.wstore_program.specs.Performing.{input_path}
 use Rattle.wstore_program.specs.declared.work.Work.{Work}
 use Rattle.wstore_program.specs.Working.{FeedsFrom, GivesOn}
 use Rattle.wstore_program.proofs.Performed.{untouched}
@@ -91,12 +93,6 @@ refused_under d path left new_left old begun read new (Ok (Some reason)) is same
     ByFront front stops (same ∙ reads ∙ ap (read_more front) is)
 refused_under d path left new_left old begun read new (Ok (Some reason)) is same (AtEnd stream consumes end undelivered
     reads) = ByAll stream undelivered (found_whole path stream old begun new is (same ∙ reads))
-
--- only files were read where it is refused
-pub refused_reads : (d : Declaration) (path : List ℕ) (old new : List Call) (reason : Stop)
-    → IsRefusedStream d path old new reason → OnlyReads old new
-refused_reads d path old new reason (ByFront front stops is) = record { since = Began path front ∷ []; is = is; readings = tt }
-refused_reads d path old new reason (ByAll stream undelivered is) = record { since = Found path (Some stream) ∷ []; is = is; readings = tt }
 
 -- ---- feeding it
 
@@ -172,8 +168,10 @@ refused_stream choice place table store node d path reason acted old new is name
 pub told_refused : (choice : Choice) (place table : List ℕ) (store : Option (List ℕ)) (node : NodeState) (d : Declaration)
     (path : List ℕ) (reason : Stop) (r : Result Acted Fault) (old new : List Call) → FeedsFrom choice path
     → Opens table store (opens.Node node) → d ≡ node.schema → IsRefusedStream d path old new reason
-    → IfOk r (IsRefusedSo reason) → IsEnded choice place table store r old new
-told_refused choice place table store node d path reason (Err fault) old new feeds opened same why told =
-    Unready (refused_reads d path old new reason why)
-told_refused choice place table store node d path reason (Ok acted) old new feeds opened same why told =
+    → IfOk r (IsRefusedSo reason) → IfErr r (λ fault. fault ≡ faults.NoMemory) → IsEnded choice place table store r old new
+told_refused choice place table store node d path reason (Err fault) old new feeds opened same (ByFront front stops is) told lacks =
+    Unready (path, feeds.1, inr (front, is))
+told_refused choice place table store node d path reason (Err fault) old new feeds opened same (ByAll stream missed is) told lacks =
+    NotCarriedOut stream new (Bytes (Input path feeds.1 is)) (Unmade lacks refl)
+told_refused choice place table store node d path reason (Ok acted) old new feeds opened same why told lacks =
     refused_stream choice place table store node d path reason acted old new feeds.0 feeds.1 opened same why told

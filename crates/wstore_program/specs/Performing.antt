@@ -1,5 +1,5 @@
 -- What a subcommand gives on the files that its words name, and what is done to the store's.
-use Rattle.std.specs.Prelude.{◌≡◌, ◌≢◌, ◌<◌, ⊤, ℕ, true, List, [], ◌∷◌, ◌++◌, Option, None, Some, Result, Ok, Err, length, option_map}
+use Rattle.std.specs.Prelude.{◌≡◌, ◌≢◌, ◌<◌, ℕ, true, List, [], ◌∷◌, Option, None, Some, Result, Ok, Err, length, option_map}
 use Rattle.wsegment.specs.Declaration.{Declaration}
 use Rattle.wsegment.specs.Spelling.{ReadsDeclaration}
 use Rattle.wbatch.specs.Streams.{Stops}
@@ -9,8 +9,9 @@ use Rattle.wfolder.specs.Call.{Call, Began, Found}
 use Rattle.wfolder.specs.Names.{IsSited, Site}
 use Rattle.wfolder.specs.Replacing.{Replaces, fault_of}
 use Rattle.wfiles.specs.Place.{MissesFile, MissesLock, StandsBehind, lock_behind, read_at}
-use Rattle.wfiles.specs.Reading.{ReadsAtMost}
+use Rattle.wfiles.specs.Reading.{MayBegin, ReadsAtMost}
 use Rattle.wfolder.specs.declared.fault.Fault.{Fault}
+use Rattle.wfolder.specs.declared.fault.Fault.TheVariants as faults
 use Rattle.wfolder.specs.declared.replacing.NotReplaced.{NotReplaced}
 use Rattle.wcommand.specs.declared.choice.Choice.{Choice}
 use Rattle.wcommand.specs.declared.choice.Paths.{Paths}
@@ -55,18 +56,16 @@ pub data ReadsInput (choice : Choice) (table : List ℕ) (store : Option (List �
   Nothing : (text : Text) → IsFeed choice → Opens table store (opens.Refused text) → other ≡ [] → new ≡ old
       → ReadsInput choice table store other old new
 
--- these calls read files, or began to
-abbrev pub AreReadings : List Call → Type 0
-AreReadings [] = ⊤
-AreReadings (Found name held ∷ cs) = AreReadings cs
-AreReadings (Began name bytes ∷ cs) = AreReadings cs
-AreReadings (c ∷ cs) = ⊥
+-- the table was not read, or only its first bytes were; or it was, as far as it is, and the store behind it was not, or only its first
+-- bytes were
+pub data MissesFiles (paths : Paths) (old new : List Call) : Type 0 where
+  Table : MayBegin paths.table.now old new → MissesFiles paths old new
+  Store : (table : List ℕ) (between : List Call) → ReadsAtMost paths.table.now 65536 table old between
+      → MayBegin paths.store.now between new → MissesFiles paths old new
 
--- nothing was done but to read files
-pub record OnlyReads (old new : List Call) : Type 0 where
-  pub since : List Call
-  pub is : new ≡ since ++ old
-  pub readings : AreReadings since
+-- CSV, OTHER or STREAM was not read, or only its first bytes were
+abbrev pub MissesInput : Choice → List Call → List Call → Type 0
+MissesInput choice old new = (path : List ℕ) × (input_path choice ≡ Some path) × MayBegin path old new
 
 -- ---- what becomes of the store
 
@@ -84,35 +83,48 @@ abbrev pub Puts : Site → Option (List ℕ) → Result (Unit {0}) NotReplaced �
 Puts site None result old new = (result ≡ Ok tt) × (new ≡ old)
 Puts site (Some bytes) result old new = Replaces site bytes result old new
 
+-- the subcommand gives a new store on the store that was read
+abbrev pub GivesNew : Choice → List ℕ → Option (List ℕ) → List ℕ → Type 0
+GivesNew choice table store other = (first : Acted) × Acts choice table store other first × (new_store first ≢ None)
+
 -- it is what the subcommand gives on this table and input, and on the store that was read, whose file is not touched where there is
--- no new store; or on the store that was found where the store's path leads, behind the links to it, under the lock of the folder that it
--- stands in, and in the place of that one the new store is put
+-- no new store; or, where there is one, on the store that was found where the store's path leads, behind the links to it, under the lock
+-- of the folder that it stands in, and in the place of that one the new store is put
 pub data CarriesOut (choice : Choice) (path table : List ℕ) (store : Option (List ℕ)) (other : List ℕ) (acted : Acted)
     (old new : List Call) : Type 0 where
   Untouched : Acts choice table store other acted → new_store acted ≡ None → new ≡ old
       → CarriesOut choice path table store other acted old new
-  Put : (behind : Option (List ℕ)) (site : Site) (held : Option (List ℕ)) → StandsBehind path behind site → IsSited site
-      → Acts choice table held other acted → Puts site (new_store acted) (Ok tt) (read_locked path behind site held old) new
+  Put : (behind : Option (List ℕ)) (site : Site) (held : Option (List ℕ)) → GivesNew choice table store other
+      → StandsBehind path behind site → IsSited site → Acts choice table held other acted
+      → Puts site (new_store acted) (Ok tt) (read_locked path behind site held old) new
       → CarriesOut choice path table store other acted old new
 
--- the store is not touched: the lock is not tried for, or not had; or it is had, of the folder of the store where its path leads, and the
--- store there is looked at and read, or not to its end, or not at all; or the new store that the subcommand gives on the bytes that were
--- found there is not put in its place, or may not stay there
-pub data IsNotCarriedOut (choice : Choice) (path table other : List ℕ) (fault : Fault) (old new : List Call) : Type 0 where
-  Unlocked : MissesLock path old new → IsNotCarriedOut choice path table other fault old new
+-- the new store that the subcommand gives is not put in the place of the old one, which is not touched: the lock is not tried for, or not
+-- had; or it is had, of the folder of the store where its path leads, and the store there is looked at and read, or not to its end, or
+-- not at all; or the new store that the subcommand gives on the bytes that were found there is not put in its place, or may not stay
+pub data IsNotPut (choice : Choice) (path table other : List ℕ) (fault : Fault) (old new : List Call) : Type 0 where
+  Unlocked : MissesLock path old new → IsNotPut choice path table other fault old new
   Unfound : (behind : Option (List ℕ)) (site : Site) → StandsBehind path behind site → IsSited site
-      → MissesFile site (lock_behind path behind site.folder true old) new → IsNotCarriedOut choice path table other fault old new
+      → MissesFile site (lock_behind path behind site.folder true old) new → IsNotPut choice path table other fault old new
   Unchanged : (behind : Option (List ℕ)) (site : Site) (held : Option (List ℕ)) → StandsBehind path behind site → IsSited site
-      → new ≡ read_locked path behind site held old → IsNotCarriedOut choice path table other fault old new
+      → new ≡ read_locked path behind site held old → IsNotPut choice path table other fault old new
   NotPut : (behind : Option (List ℕ)) (site : Site) (held : Option (List ℕ)) (acted : Acted) (why : NotReplaced)
       → StandsBehind path behind site → IsSited site → Acts choice table held other acted → fault ≡ fault_of why
       → Puts site (new_store acted) (Err why) (read_locked path behind site held old) new
-      → IsNotCarriedOut choice path table other fault old new
+      → IsNotPut choice path table other fault old new
+
+-- there is no memory to make what the subcommand gives, and nothing is done; or it gives a new store on the store that was read, and
+-- that is not put in its place
+pub data IsNotCarriedOut (choice : Choice) (path table : List ℕ) (store : Option (List ℕ)) (other : List ℕ) (fault : Fault)
+    (old new : List Call) : Type 0 where
+  Unmade : fault ≡ faults.NoMemory → new ≡ old → IsNotCarriedOut choice path table store other fault old new
+  Unput : GivesNew choice table store other → IsNotPut choice path table other fault old new
+      → IsNotCarriedOut choice path table store other fault old new
 
 -- it is carried out on the store of a path, or at a fault it is not
 abbrev pub IsFinished : Choice → List ℕ → List ℕ → Option (List ℕ) → List ℕ → Result Acted Fault → List Call → List Call → Type 0
 IsFinished choice path table store other (Ok acted) old new = CarriesOut choice path table store other acted old new
-IsFinished choice path table store other (Err fault) old new = IsNotCarriedOut choice path table other fault old new
+IsFinished choice path table store other (Err fault) old new = IsNotCarriedOut choice path table store other fault old new
 
 -- ---- the whole subcommand
 
@@ -123,11 +135,11 @@ pub record IsDone (choice : Choice) (path table : List ℕ) (store : Option (Lis
   pub input : ReadsInput choice table store other old read
   pub carried_out : CarriesOut choice path table store other acted read new
 
--- what is done then at a fault: the input is not read to its end, or there is no memory behind it; or the store is not replaced
+-- what is done then at a fault: the input is not read, or not to its end; or what the subcommand gives on it is not carried out
 pub data IsUndone (choice : Choice) (path table : List ℕ) (store : Option (List ℕ)) (fault : Fault) (old new : List Call) : Type 0 where
-  Unready : OnlyReads old new → IsUndone choice path table store fault old new
+  Unready : MissesInput choice old new → IsUndone choice path table store fault old new
   NotCarriedOut : (other : List ℕ) (read : List Call) → ReadsInput choice table store other old read
-      → IsNotCarriedOut choice path table other fault read new → IsUndone choice path table store fault old new
+      → IsNotCarriedOut choice path table store other fault read new → IsUndone choice path table store fault old new
 
 -- it is done, or at a fault it is undone
 abbrev pub IsEnded : Choice → List ℕ → List ℕ → Option (List ℕ) → Result Acted Fault → List Call → List Call → Type 0
@@ -145,10 +157,10 @@ pub record IsPerformed (choice : Choice) (acted : Acted) (old new : List Call) :
   pub files : ReadsFiles paths table store old read
   pub done : IsDone choice paths.store.now table store acted read new
 
--- it is given up before the store is touched, while files are read or behind that; or the new store is not put in its place, or may
--- not stay there
+-- it is given up before the store is touched, while the files that the words name are read or behind that; or the new store is not put
+-- in its place, or may not stay there
 pub data IsGivenUp (choice : Choice) (fault : Fault) (old new : List Call) : Type 0 where
-  Unread : OnlyReads old new → IsGivenUp choice fault old new
+  Unread : (paths : Paths) → paths_of choice ≡ Some paths → MissesFiles paths old new → IsGivenUp choice fault old new
   Undone : (paths : Paths) (table : List ℕ) (store : Option (List ℕ)) (read : List Call) → paths_of choice ≡ Some paths
       → ReadsFiles paths table store old read → IsUndone choice paths.store.now table store fault read new
       → IsGivenUp choice fault old new

@@ -7,12 +7,13 @@ use Rattle.wreplies.specs.Texts.{bytes_of}
 use Rattle.wfolder.specs.Call.{Call}
 use Rattle.wfolder.specs.Calls.{CallCounts, HasCause}
 use Rattle.wfolder.specs.declared.fault.Fault.{Fault}
+use Rattle.wfolder.specs.declared.fault.Fault.TheVariants as causes
 use Rattle.wcommand.specs.declared.choice.Paths.{Paths}
 use Rattle.wact.specs.Opening.{Opens}
 use Rattle.wact.specs.declared.opening.Opened.{Opened}
 use Rattle.wact.specs.declared.opening.Opened.TheVariants as opens
 use Rattle.wstore.specs.Nodes.{NodeState}
-use Rattle.wstore_program.specs.Performing.{OnlyReads, ReadsFiles}
+use Rattle.wstore_program.specs.Performing.{MissesFiles, ReadsFiles}
 use Rattle.wreplies.specs.declared.text.Text.{Text}
 use Rattle.wshell.specs.Runs as runs
 use Rattle.wshell.specs.declared.fault.ShellFault.{ShellFault}
@@ -30,6 +31,12 @@ pub record IsOpened (paths : Paths) (opened : Opened) (old new : List Call) : Ty
   pub store : Option (List ℕ)
   pub read : ReadsFiles paths table store old new
   pub opens : Opens table store opened
+
+-- the table or the store is not read; or both are, and there is no memory to open them
+pub data IsUnopened (paths : Paths) (fault : Fault) (old new : List Call) : Type 0 where
+  Missed : MissesFiles paths old new → IsUnopened paths fault old new
+  Unmade : (table : List ℕ) (store : Option (List ℕ)) → fault ≡ causes.NoMemory → ReadsFiles paths table store old new
+      → IsUnopened paths fault old new
 
 -- a refusal is printed, or a front of it, and then the writer failed
 pub data IsRefusal (text : List ℕ) (old new : Option (List ℕ)) (failures status : ℕ) : Type 0 where
@@ -55,11 +62,11 @@ pub record Answers {I W : Type 0} (node : NodeState) (left new_left : Option (Li
   pub ran : IsRun node left new_left input old new output end
   pub status_is : status ≡ shell_status end
 
--- the files are not read, and a fault has its cause; or the table or the store is refused; or the queries are answered on the node
+-- the files are not opened, and a fault has its cause; or the table or the store is refused; or the queries are answered on the node
 -- that they open. Which files were read the calls tell, before and after
 pub data HasShellStatus {I W : Type 0} (paths : Paths) (counts : CallCounts) (before after : List Call)
     (left new_left : Option (List ℕ)) (input : Counts I) (old new : Option (List ℕ)) (output : Counts W) (status : ℕ) : Type 0 where
-  NotOpened : (fault : Fault) → HasCause fault counts → OnlyReads before after → Keeps old new → status ≡ 3
+  NotOpened : (fault : Fault) → HasCause fault counts → IsUnopened paths fault before after → Keeps old new → status ≡ 3
       → HasShellStatus paths counts before after left new_left input old new output status
   Refused : (text : Text) → IsOpened paths (opens.Refused text) before after
       → IsRefusal (bytes_of text) old new output.failures status

@@ -1,11 +1,11 @@
 //! A subcommand on its files.
-ghost use Rattle.std.specs.Prelude.{◌≡◌, [], None, Ok, true, IfOk, IfErr, IfNone, IfSome, OnErr, OnOk, Some, option_map};
+ghost use Rattle.std.specs.Prelude.{◌≡◌, ◌≢◌, [], None, Ok, true, IfOk, IfErr, IfNone, IfSome, OnErr, OnOk, Some, option_map};
 ghost use Rattle.wsegment.specs.Spelling.{ReadsDeclaration};
 ghost use Rattle.wbatch.specs.Batches.{stream_of};
 ghost use Rattle.wcommand.specs.Inputs.{is_act, paths_of};
 ghost use Rattle.wact.specs.Delivering.{IsFeed, IsRefusedSo};
 ghost use Rattle.wact.specs.Streams.{Feeds};
-ghost use Rattle.wstore_program.specs.Performing.{OnlyReads, Performs, Puts, ReadsBytes, input_path};
+ghost use Rattle.wstore_program.specs.Performing.{MissesInput, Performs, Puts, ReadsBytes, input_path, new_store};
 ghost use Rattle.wstore_program.specs.Working.{Ends, FeedsFrom, FeedsNode, Finishes, Gives, GivesOn, IsCounted, IsGiven};
 ghost use Rattle.wstore_program.specs.Working.{given_bytes, store_bytes};
 ghost use Rattle.wfiles.specs.Place.{place_site};
@@ -95,7 +95,7 @@ fn read_from<R: Files<File = File> + AllocGlobal>(
     requires sound { NothingFailed system.old }
     requires named { input_path choice.now ≡ Some path.now }
     ensures read { IfOk result (λ bytes. ReadsBytes choice.now bytes.items calls.old.calls calls.new.calls) }
-    ensures unread { OnErr result (OnlyReads calls.old.calls calls.new.calls) }
+    ensures unread { OnErr result (MissesInput choice.now calls.old.calls calls.new.calls) }
     ensures sound { OnOk result (NothingFailed system.new) }
     ensures cause { IfErr result (λ fault. HasCause fault system.new) }
 {
@@ -114,7 +114,7 @@ fn read_input<R: Files<File = File> + AllocGlobal>(
 ) -> Result<Vec<u8>, Fault>
     requires { NothingFailed system.old }
     ensures read { IfOk result (λ bytes. ReadsBytes choice.now bytes.items calls.old.calls calls.new.calls) }
-    ensures unread { OnErr result (OnlyReads calls.old.calls calls.new.calls) }
+    ensures unread { OnErr result (MissesInput choice.now calls.old.calls calls.new.calls) }
     ensures sound { OnOk result (NothingFailed system.new) }
     ensures cause { IfErr result (λ fault. HasCause fault system.new) }
 {
@@ -177,6 +177,7 @@ fn carry_out<R: Files<File = File> + AllocGlobal + Clock + Eprint>(
     first: Acted,
 ) -> Result<Acted, Fault>
     requires gives { Gives work.now given.now first }
+    requires new { new_store first ≢ None }
     requires sound { NothingFailed system.old }
     ensures finished { Finishes work.now (given_bytes given.now) result calls.old.calls calls.new.calls }
     ensures counted { IsCounted result system.new }
@@ -274,6 +275,7 @@ fn fed<R>(
     requires whole { batch.now.held ≡ [] }
     requires sound { NothingFailed system.old }
     ensures feeds { IfOk result (λ acted. Feeds node.schema node.view hashed.now (stream_of batch.now) acted) }
+    ensures kind { IfErr result (λ fault. fault ≡ Fault.NoMemory) }
     ensures sound { OnOk result (NothingFailed system.new) }
     ensures cause { IfErr result (λ fault. HasCause fault system.new) }
 {
@@ -316,6 +318,7 @@ fn refuse_stream<R: AllocGlobal + Eprint>(
 ) -> Result<Acted, Fault>
     requires { NothingFailed system.old }
     ensures told { IfOk result (IsRefusedSo reason) }
+    ensures kind { IfErr result (λ fault. fault ≡ Fault.NoMemory) }
     ensures counted { IsCounted result system.new }
 {
     let acted = match system.grown(undelivered(rt.alloc(), reason)) {

@@ -32,6 +32,7 @@ pub(crate) fn opened<R>(
 ) -> Result<Opened, Fault>
     requires { NothingFailed system.old }
     ensures opens { IfOk result (λ opened. Opens table.now store.now opened) }
+    ensures kind { IfErr result (λ fault. fault ≡ Fault.NoMemory) }
     ensures sound { OnOk result (NothingFailed system.new) }
     ensures cause { IfErr result (λ fault. HasCause fault system.new) }
 {

@@ -1,10 +1,9 @@
 //! A shell on the files of a table and a store.
-ghost use Rattle.std.specs.Prelude.{◌≡◌, IfErr, IfOk, OnErr, OnOk};
+ghost use Rattle.std.specs.Prelude.{◌≡◌, IfErr, IfOk, OnOk};
 ghost use Rattle.std.specs.Process.{exit_status};
 ghost use Rattle.wfolder.specs.Calls.{HasCause, NothingFailed};
 ghost use Rattle.wlines.specs.Pending.{IsNew};
-ghost use Rattle.wstore_program.specs.Performing.{OnlyReads};
-ghost use Rattle.wstore_program.specs.Shelling.{Answers, HasShellStatus, IsOpened, IsRefusal, shell_status};
+ghost use Rattle.wstore_program.specs.Shelling.{Answers, HasShellStatus, IsOpened, IsRefusal, IsUnopened, shell_status};
 
 use crate::opening::{LONGEST_DECLARATION, hashed_of, opened};
 use crate::{DONE, failed, failed_on};
@@ -33,7 +32,7 @@ fn open_files<R: Files<File = File> + AllocGlobal>(
 ) -> Result<Opened, Fault>
     requires { NothingFailed system.old }
     ensures opened { IfOk result (λ opened. IsOpened paths.entry opened calls.old.calls calls.new.calls) }
-    ensures unread { OnErr result (OnlyReads calls.old.calls calls.new.calls) }
+    ensures unopened { IfErr result (λ fault. IsUnopened paths.entry fault calls.old.calls calls.new.calls) }
     ensures sound { OnOk result (NothingFailed system.new) }
     ensures cause { IfErr result (λ fault. HasCause fault system.new) }
 {

@@ -1,12 +1,13 @@
-use Rattle.wstore_program.proofs.Performed.{performed_by, store_unread, table_unread}
+use Rattle.wstore_program.specs.Performing.{Store, Table, Unread}
+use Rattle.wstore_program.proofs.Performed.{performed_by}
 use Rattle.wstore_program.proofs.acting.perform.Goals as goal
 
 pub returns-in-Err-clause-performed : goal.returns-in-Err-clause-performed
-returns-in-Err-clause-performed g c = table_unread _ _ _ _ _ c.in-Err.ensures.begun
+returns-in-Err-clause-performed g c = Unread c.args.paths c.requires.named (Table c.in-Err.ensures.begun)
 
 pub returns-in-Err-read_if_there-clause-performed : goal.returns-in-Err-read_if_there-clause-performed
 returns-in-Err-read_if_there-clause-performed g c =
-    store_unread _ _ _ _ _ _ _ _ _ c.in-Ok.ensures.found c.in-Err-read_if_there.ensures.begun
+    Unread c.args.paths c.requires.named (Store _ _ c.in-Ok.ensures.found c.in-Err-read_if_there.ensures.begun)
 
 pub returns-clause-performed : goal.returns-clause-performed
 returns-clause-performed g c =

@@ -8,11 +8,11 @@ returns-in-Take-clause-read g c = rows_read _ _ _ _ c.read_at_most.result (λ by
     (subst IsTake (sym c.in-Take.is) tt) c.requires.named c.read_at_most.ensures.found
 
 pub returns-in-Take-clause-unread : goal.returns-in-Take-clause-unread
-returns-in-Take-clause-unread g c = input_unread _ _ _ c.read_at_most.result c.read_at_most.ensures.begun
+returns-in-Take-clause-unread g c = input_unread _ _ _ _ c.read_at_most.result c.requires.named c.read_at_most.ensures.begun
 
 pub returns-in_default-clause-read : goal.returns-in_default-clause-read
 returns-in_default-clause-read g c = input_read _ _ _ _ c.read_whole.result (λ bytes. bytes.items) c.requires.named
     c.read_whole.ensures.found
 
 pub returns-in_default-clause-unread : goal.returns-in_default-clause-unread
-returns-in_default-clause-unread g c = input_unread _ _ _ c.read_whole.result c.read_whole.ensures.begun
+returns-in_default-clause-unread g c = input_unread _ _ _ _ c.read_whole.result c.requires.named c.read_whole.ensures.begun

@@ -1,4 +1,6 @@
-use Rattle.wstore_program.proofs.Performed.{begins, begins_behind_most, on_err}
+use Rattle.wstore_program.specs.Performing.{Store, Table}
+use Rattle.wstore_program.specs.Shelling.{Missed}
+use Rattle.wstore_program.proofs.Performed.{if_err}
 use Rattle.wstore_program.proofs.Shells.{opened, unopened}
 use Rattle.wstore_program.proofs.shelling.open_files.Goals as goal
 
@@ -8,11 +10,13 @@ returns-clause-opened g c =
     c.in_ok-table.ensures.found c.in_ok-store.ensures.found
     (rw c.hashed_of.ensures at c.opened.ensures.opens)
 
-pub returns-clause-unread : goal.returns-clause-unread
-returns-clause-unread g c = unopened c.args.paths _ _ _ _ _ c.opened.result c.in_ok-table.ensures.found c.in_ok-store.ensures.found
+pub returns-clause-unopened : goal.returns-clause-unopened
+returns-clause-unopened g c =
+    unopened c.args.paths _ _ _ _ _ c.opened.result c.in_ok-table.ensures.found c.in_ok-store.ensures.found c.opened.ensures.kind
 
-pub returns-in_err-table-clause-unread : goal.returns-in_err-table-clause-unread
-returns-in_err-table-clause-unread g c = on_err _ (begins _ _ _ c.in_err-table.ensures.begun)
+pub returns-in_err-table-clause-unopened : goal.returns-in_err-table-clause-unopened
+returns-in_err-table-clause-unopened g c = if_err _ (λ fault. Missed (Table c.in_err-table.ensures.begun))
 
-pub returns-in_err-store-clause-unread : goal.returns-in_err-store-clause-unread
-returns-in_err-store-clause-unread g c = on_err _ (begins_behind_most _ _ _ _ _ _ _ c.in_ok-table.ensures.found c.in_err-store.ensures.begun)
+pub returns-in_err-store-clause-unopened : goal.returns-in_err-store-clause-unopened
+returns-in_err-store-clause-unopened g c =
+    if_err _ (λ fault. Missed (Store _ _ c.in_ok-table.ensures.found c.in_err-store.ensures.begun))

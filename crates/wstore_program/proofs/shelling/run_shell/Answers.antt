@@ -10,4 +10,4 @@ returns-in-Ok-Refused g c = Refused c.in-Ok-Refused.text (rw c.in-Ok-Refused.fie
     (rw c.as_slice.ensures at c.refuse.ensures)
 
 pub returns-in-Err : goal.returns-in-Err
-returns-in-Err g c = NotOpened c.in-Err.fault c.in-Err.ensures.cause c.in-Err.ensures.unread (Keeps-refl _) c.failed_on.ensures
+returns-in-Err g c = NotOpened c.in-Err.fault c.in-Err.ensures.cause c.in-Err.ensures.unopened (Keeps-refl _) c.failed_on.ensures

@@ -1,0 +1,5 @@
+use Rattle.wstore_program.proofs.Performed.{grown_lacks}
+use Rattle.wstore_program.proofs.acting.fed.Goals as goal
+
+pub returns-clause-kind : goal.returns-clause-kind
+returns-clause-kind g c = grown_lacks c.fed_on.result c.grown.result c.grown.ensures.made c.grown.ensures.refused
