@@ -99,9 +99,9 @@ pub data CarriesOut (choice : Choice) (path table : List ℕ) (store : Option (L
       → Puts site (new_store acted) (Ok tt) (read_locked path behind site held old) new
       → CarriesOut choice path table store other acted old new
 
--- the new store that the subcommand gives is not put in the place of the old one, which is not touched: the lock is not tried for, or not
--- had; or it is had, of the folder of the store where its path leads, and the store there is looked at and read, or not to its end, or
--- not at all; or the new store that the subcommand gives on the bytes that were found there is not put in its place, or may not stay
+-- a new store does not take the place of the old one: the lock is not tried for, or not had; or it is had, of the folder of the store
+-- where its path leads, and the store there is looked at and read, or not to its end, or not at all; or the new store that the subcommand
+-- gives on the bytes that were found there is not put in its place, or may not stay there
 pub data IsNotPut (choice : Choice) (path table other : List ℕ) (fault : Fault) (old new : List Call) : Type 0 where
   Unlocked : MissesLock path old new → IsNotPut choice path table other fault old new
   Unfound : (behind : Option (List ℕ)) (site : Site) → StandsBehind path behind site → IsSited site
