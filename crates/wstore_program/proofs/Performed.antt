@@ -111,9 +111,10 @@ unfound choice path table other found site fault old locked new finds sited p f 
 -- a store on which nothing more is done
 pub unchanged : (choice : Choice) (path table other : List ℕ) (found site : Site) (held : Option (List ℕ)) (fault : Fault)
     (old locked read : List Call) → FindsSite path found old locked → IsSited site → site.path ≡ found.path
-    → site.folder ≡ found.folder → read ≡ read_at site held locked → IsNotPut choice path table other fault old read
-unchanged choice path table other found site held fault old locked read finds sited p f r =
-    Unchanged finds.0 site held (stands_still path finds.0 found site p f finds.1) sited
+    → site.folder ≡ found.folder → fault ≡ faults.NoMemory → read ≡ read_at site held locked
+    → IsNotPut choice path table other fault old read
+unchanged choice path table other found site held fault old locked read finds sited p f lacks r =
+    Unchanged finds.0 site held (stands_still path finds.0 found site p f finds.1) sited lacks
     (found_locked path finds.0 site found.folder held old locked read f finds.2 r)
 
 -- a new store is put in the place of what was read

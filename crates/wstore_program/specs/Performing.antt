@@ -100,14 +100,14 @@ pub data CarriesOut (choice : Choice) (path table : List ℕ) (store : Option (L
       → CarriesOut choice path table store other acted old new
 
 -- a new store does not take the place of the old one: the lock is not tried for, or not had; or it is had, of the folder of the store
--- where its path leads, and the store there is looked at and read, or not to its end, or not at all; or the new store that the subcommand
--- gives on the bytes that were found there is not put in its place, or may not stay there
+-- where its path leads, and the store there is not looked at, or not read to its end; or it is read, and there is no memory to make what
+-- the subcommand gives on the bytes that were found there, or the new store is not put in its place, or may not stay there
 pub data IsNotPut (choice : Choice) (path table other : List ℕ) (fault : Fault) (old new : List Call) : Type 0 where
   Unlocked : MissesLock path old new → IsNotPut choice path table other fault old new
   Unfound : (behind : Option (List ℕ)) (site : Site) → StandsBehind path behind site → IsSited site
       → MissesFile site (lock_behind path behind site.folder true old) new → IsNotPut choice path table other fault old new
   Unchanged : (behind : Option (List ℕ)) (site : Site) (held : Option (List ℕ)) → StandsBehind path behind site → IsSited site
-      → new ≡ read_locked path behind site held old → IsNotPut choice path table other fault old new
+      → fault ≡ faults.NoMemory → new ≡ read_locked path behind site held old → IsNotPut choice path table other fault old new
   NotPut : (behind : Option (List ℕ)) (site : Site) (held : Option (List ℕ)) (acted : Acted) (why : NotReplaced)
       → StandsBehind path behind site → IsSited site → Acts choice table held other acted → fault ≡ fault_of why
       → Puts site (new_store acted) (Err why) (read_locked path behind site held old) new

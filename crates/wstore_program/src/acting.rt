@@ -136,6 +136,7 @@ fn acted_again<R>(
     requires gives { Gives work.now given.now first }
     requires sound { NothingFailed system.old }
     ensures acts { IfOk result (GivesOn work.now (store_bytes now.now) (given_bytes given.now)) }
+    ensures kind { IfErr result (λ fault. fault ≡ Fault.NoMemory) }
     ensures sound { OnOk result (NothingFailed system.new) }
     ensures cause { IfErr result (λ fault. HasCause fault system.new) }
 {

@@ -15,12 +15,13 @@ pub returns-in-Err-acted_again-clause-finished : goal.returns-in-Err-acted_again
 returns-in-Err-acted_again-clause-finished g c =
     Unput (c.args.first, c.requires.gives.1, c.requires.new)
     (unchanged _ _ _ _ _ _ _ _ _ _ _ c.in-Ok.ensures.found c.in-Ok-read.ensures.sited c.in-Ok-read.ensures.path
-    c.in-Ok-read.ensures.folder c.in-Ok-read.ensures.found)
+    c.in-Ok-read.ensures.folder c.in-Err-acted_again.ensures.kind c.in-Ok-read.ensures.found)
 
 pub returns-in-Ok-put-clause-finished : goal.returns-in-Ok-put-clause-finished
 returns-in-Ok-put-clause-finished g c =
     put_in_place _ _ _ _ _ _ _ _ _ _ _ _ _ (c.args.first, c.requires.gives.1, c.requires.new) c.in-Ok.ensures.found
-    c.in-Ok-read.ensures.sited c.in-Ok-read.ensures.path c.in-Ok-read.ensures.folder c.in-Ok-acted_again.ensures.acts c.in-Ok-read.ensures.found c.in-Ok-put.ensures.puts
+    c.in-Ok-read.ensures.sited c.in-Ok-read.ensures.path c.in-Ok-read.ensures.folder
+    c.in-Ok-acted_again.ensures.acts c.in-Ok-read.ensures.found c.in-Ok-put.ensures.puts
 
 pub returns-clause-finished : goal.returns-clause-finished
 returns-clause-finished g c =
