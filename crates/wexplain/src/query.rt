@@ -45,6 +45,32 @@ fn push_first_wrong_byte(text: &mut String, query: &[u8]) -> Result<(), AllocErr
     text.push('\n')
 }
 
+// What a token has to be that begins with this byte, and is none.
+fn token_note(first: u8) -> &'static str {
+    match first {
+        b'\'' => "the text has no end",
+        b'"' => "a name in quotes has 1 to 63 bytes and an end",
+        b'0'..=b'9' => "a number is digits alone, below 2^95",
+        b'a'..=b'z' | b'A'..=b'Z' | b'_' => "a name has at most 63 bytes",
+        0x80.. => "a character beyond ASCII stands in quotes",
+        _ => "",
+    }
+}
+
+// Adds the place at which a query has no token, and why it has none.
+fn push_no_token(
+    alloc: Global,
+    text: &mut String,
+    query: &[u8],
+    place: usize,
+) -> Result<(), AllocError> {
+    let note = match query.get(place) {
+        Some(first) => token_note(*first),
+        None => "",
+    };
+    push_place(alloc, text, query, place, note)
+}
+
 // Adds where a query has this fault.
 fn push_query_place(
     alloc: Global,
@@ -56,7 +82,7 @@ fn push_query_place(
     match fault {
         AskFault::TooLong => push_query_length(text, query),
         AskFault::NotUtf8 => push_first_wrong_byte(text, query),
-        AskFault::At { place } => push_place(alloc, text, query, place, ""),
+        AskFault::At { place } => push_no_token(alloc, text, query, place),
         _ => push_in_tokens(alloc, text, schema, query, fault),
     }
 }
