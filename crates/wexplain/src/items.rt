@@ -7,7 +7,7 @@ use wsegment::LONGEST_SEGMENT;
 use wvalues::Name;
 
 /// The most bytes of a line.
-const LONGEST_LINE: usize = 200;
+pub(crate) const LONGEST_LINE: usize = 200;
 
 /// A line with its body, which has no bytes where the line has none.
 #[derive(Clone, Copy)]

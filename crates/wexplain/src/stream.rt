@@ -4,13 +4,14 @@ ghost use Rattle.wshown.specs.Shown.{BeginsWith};
 ghost use Rattle.wsentences.specs.Labels.{segment_label};
 
 use crate::exchange_file::{push_name, push_offset};
-use crate::items::{cut_item, cut_short};
+use crate::items::{LONGEST_LINE, cut_item, cut_short};
 use std::alloc::{AllocError, Global};
 use wbatch::{Place, Stands};
+use wrecords::cut_line;
 use wsegment::{Schema, SegmentFault};
 use wsentences::{STREAM, explained, push_file, push_segment_place, segment_sentence};
 use wshown::push_number;
-use wvalues::Name;
+use wvalues::{Name, NameFault};
 
 // Adds which message of a stream it is, from 1.
 fn push_message(text: &mut String, place: &Place<'_>) -> Result<(), AllocError> {
@@ -55,6 +56,37 @@ fn push_refused(
     }
 }
 
+// Which word of the name in a line is refused, and how, where a name is to stand behind its first word.
+fn name_note(line: &str) -> &'static str {
+    let mut words = line.split(' ');
+    if !matches!(words.next(), Some("S" | "R" | "U")) {
+        return "";
+    }
+    let (Some(origin), Some(number)) = (words.next(), words.next()) else {
+        return "";
+    };
+    match Name::read(origin.as_bytes(), number.as_bytes()) {
+        Ok(_) => "",
+        Err(NameFault::BadOrigin) => ": its origin is refused N1",
+        Err(NameFault::BadNumber) => ": its number is refused N2",
+    }
+}
+
+// What is wrong with the line in front of what is left of a stream, if that is known: its name is refused, or the stream ends behind it.
+fn line_note(rest: &[u8]) -> &'static str {
+    let Some((line, _)) = cut_line(rest) else {
+        return if rest.len() > LONGEST_LINE {
+            ""
+        } else {
+            ": no line feed ends it"
+        };
+    };
+    match str::from_utf8(line) {
+        Ok(line) => name_note(line),
+        Err(_) => "",
+    }
+}
+
 // Adds where the rest of a stream, behind so many bytes, can be read no more.
 fn push_stop(alloc: Global, text: &mut String, before: u64, rest: &[u8]) -> Result<(), AllocError> {
     if let Some(name) = cut_short(rest) {
@@ -65,7 +97,10 @@ fn push_stop(alloc: Global, text: &mut String, before: u64, rest: &[u8]) -> Resu
         Ok(_) => push_offset(alloc, text, before, rest),
         Err(place) => {
             let read = rest.len().saturating_sub(place.len()) as u64;
-            push_offset(alloc, text, before.saturating_add(read), place)
+            push_offset(alloc, text, before.saturating_add(read), place)?;
+            // behind its line a message has no words
+            let note = if read == 0 { line_note(rest) } else { "" };
+            text.push_str(note)
         }
     }
 }
