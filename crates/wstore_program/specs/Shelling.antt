@@ -1,11 +1,11 @@
 -- The status with which a shell ends, and what it has written then.
-use Rattle.std.specs.Prelude.{◌≡◌, ℕ, Bool, true, false, List, Option, Result, Ok, Err, take, IfSome}
+use Rattle.std.specs.Prelude.{◌≡◌, ℕ, Bool, true, false, List, Option, Result, Ok, Err, IfSome}
 use Rattle.std.specs.Io.KnownBytes.{Appends, Keeps}
 use Rattle.wvalues.specs.Counts.{Counts}
 use Rattle.wlines.specs.Pending.{IsSound, IsSoundWriter}
 use Rattle.wreplies.specs.Texts.{bytes_of}
 use Rattle.wfolder.specs.Call.{Call}
-use Rattle.wfolder.specs.Calls.{CallCounts, HasCause}
+use Rattle.wfolder.specs.Calls.{CallCounts, HasCause, NothingFailed}
 use Rattle.wfolder.specs.declared.fault.Fault.{Fault}
 use Rattle.wfolder.specs.declared.fault.Fault.TheVariants as causes
 use Rattle.wcommand.specs.declared.choice.Paths.{Paths}
@@ -14,6 +14,7 @@ use Rattle.wact.specs.declared.opening.Opened.{Opened}
 use Rattle.wact.specs.declared.opening.Opened.TheVariants as opens
 use Rattle.wstore.specs.Nodes.{NodeState}
 use Rattle.wstore_program.specs.Performing.{MissesFiles, ReadsFiles}
+use Rattle.wstore_program.specs.Statuses.{IsPrinted}
 use Rattle.wreplies.specs.declared.text.Text.{Text}
 use Rattle.wshell.specs.Runs as runs
 use Rattle.wshell.specs.declared.fault.ShellFault.{ShellFault}
@@ -38,11 +39,6 @@ pub data IsUnopened (paths : Paths) (fault : Fault) (old new : List Call) : Type
   Unmade : (table : List ℕ) (store : Option (List ℕ)) → fault ≡ causes.NoMemory → ReadsFiles paths table store old new
       → IsUnopened paths fault old new
 
--- a refusal is printed, or a front of it, and then the writer failed
-pub data IsRefusal (text : List ℕ) (old new : Option (List ℕ)) (failures status : ℕ) : Type 0 where
-  Printed : Appends old new text → status ≡ 1 → IsRefusal text old new failures status
-  Unwritten : (n : ℕ) → Appends old new (take n text) → failures ≡ 1 → status ≡ 3 → IsRefusal text old new failures status
-
 -- what a run on the queries of an input has written, where it ended so, and that nothing failed; or at a fault a beginning of that, and
 -- the fault has its cause. Where a read failed, no reply waited for it
 abbrev pub IsRun : {I W : Type 0} → NodeState → Option (List ℕ) → Option (List ℕ) → Counts I → Option (List ℕ)
@@ -62,15 +58,15 @@ pub record Answers {I W : Type 0} (node : NodeState) (left new_left : Option (Li
   pub ran : IsRun node left new_left input old new output end
   pub status_is : status ≡ shell_status end
 
--- the files are not opened, and a fault has its cause; or the table or the store is refused; or the queries are answered on the node
--- that they open. Which files were read the calls tell, before and after
+-- the files are not opened, and a fault has its cause; or no call on them failed, and why the table or the store is refused is printed, or
+-- the queries are answered on the node that they open. Which files were read the calls tell, before and after
 pub data HasShellStatus {I W : Type 0} (paths : Paths) (counts : CallCounts) (before after : List Call)
     (left new_left : Option (List ℕ)) (input : Counts I) (old new : Option (List ℕ)) (output : Counts W) (status : ℕ) : Type 0 where
   NotOpened : (fault : Fault) → HasCause fault counts → IsUnopened paths fault before after → Keeps old new → status ≡ 3
       → HasShellStatus paths counts before after left new_left input old new output status
-  Refused : (text : Text) → IsOpened paths (opens.Refused text) before after
-      → IsRefusal (bytes_of text) old new output.failures status
+  Refused : (text : Text) → IsOpened paths (opens.Refused text) before after → NothingFailed counts
+      → IsPrinted (bytes_of text) 1 old new output.failures status
       → HasShellStatus paths counts before after left new_left input old new output status
-  Ran : (node : NodeState) → IsOpened paths (opens.Node node) before after
+  Ran : (node : NodeState) → IsOpened paths (opens.Node node) before after → NothingFailed counts
       → Answers node left new_left input old new output status
       → HasShellStatus paths counts before after left new_left input old new output status

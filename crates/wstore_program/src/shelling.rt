@@ -3,10 +3,10 @@ ghost use Rattle.std.specs.Prelude.{◌≡◌, IfErr, IfOk, OnOk};
 ghost use Rattle.std.specs.Process.{exit_status};
 ghost use Rattle.wfolder.specs.Calls.{HasCause, NothingFailed};
 ghost use Rattle.wlines.specs.Pending.{IsNew};
-ghost use Rattle.wstore_program.specs.Shelling.{Answers, HasShellStatus, IsOpened, IsRefusal, IsUnopened, shell_status};
+ghost use Rattle.wstore_program.specs.Shelling.{Answers, HasShellStatus, IsOpened, IsUnopened, shell_status};
 
 use crate::opening::{LONGEST_DECLARATION, hashed_of, opened};
-use crate::{DONE, failed, failed_on};
+use crate::{DONE, failed, failed_on, print};
 use std::fs::File;
 use std::io::{Read, Write};
 use std::process::ExitCode;
@@ -15,7 +15,6 @@ use wact::{Opened, Purpose};
 use wcommand::Paths;
 use wfiles::{Record, System, read_at_most, read_if_there};
 use wfolder::Fault;
-use wlines::write_reply;
 use wshell::{ShellFault, run};
 use wstore::Node;
 use wvalues::Counted;
@@ -61,17 +60,6 @@ fn ended(rt: &impl Eprint, end: Result<bool, ShellFault>) -> ExitCode
     }
 }
 
-// Prints the refusal of the table or the store.
-fn refuse<W: Write>(rt: &impl Eprint, output: &mut Counted<W>, text: &[u8]) -> ExitCode
-    requires { IsNew output.old }
-    ensures { IsRefusal text.now (W.contents output.old.inner) (W.contents output.new.inner) output.new.failures (exit_status result) }
-{
-    match write_reply(output, text) {
-        Ok(()) => ExitCode::from(REFUSED),
-        Err(_) => failed(rt, Fault::Write),
-    }
-}
-
 // Answers the queries of an input on what a node knows.
 fn answer<R: AllocGlobal + Eprint, I: Read, W: Write>(
     rt: &R,
@@ -109,7 +97,7 @@ pub(crate) fn run_shell<R: Files<File = File> + AllocGlobal + Eprint, I: Read, W
 {
     match open_files(rt, system, calls, paths) {
         Ok(Opened::Node(node)) => answer(rt, node, input, output),
-        Ok(Opened::Refused(text)) => refuse(rt, output, text.as_slice()),
+        Ok(Opened::Refused(text)) => print(rt, output, text.as_slice(), REFUSED),
         Err(fault) => failed_on(rt, system, fault),
     }
 }
