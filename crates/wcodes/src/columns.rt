@@ -48,8 +48,8 @@ fn leads_with_text(column: &[&Value]) -> bool
     false
 }
 
-/// Codes for the values of a column: their distances from the first of them where they are nulls and integers that lie
-/// less than 2^32 apart, and else their ranks.
+/// Codes for the values of a column: their distances from the first of them where they are nulls and integers that lie at
+/// most 2^32 - 3 apart, and else their ranks.
 #[tactic(auto, using(crate::proofs::CodeFacts::from_base))]
 pub fn column_codes(alloc: Global, column: &[&Value], key: &SortKey) -> Result<Vec<u32>, AllocError>
     requires { length column.now ≤ 2 ^ 32 }
@@ -77,8 +77,8 @@ fn near_base(column: &[&Value], key: &SortKey) -> Whole {
 }
 
 /// Codes for the values of a column of numbers, and none where the first value that is not null is a text. They stand as those of
-/// [`column_codes`] do, but need not begin near 0: where the numbers lie within 2^31 of the first of them, they are counted from
-/// there, and each value is looked at once.
+/// [`column_codes`] do, but need not begin near 0: where the numbers lie from 2^31 before the first of them to 2^31 - 3
+/// behind it, they are counted from there, and each value is looked at once.
 #[tactic(auto, using(crate::proofs::CodeFacts::from_base))]
 pub fn number_codes(
     alloc: Global,

@@ -13,7 +13,7 @@ use wvalues::Value;
 /// cells themselves costs less.
 const MOST_DISTINCT: usize = 1 << 16;
 
-/// The most slots of a table.
+/// The most slots of a table, a power of two.
 const MOST_SLOTS: usize = 1 << 17;
 
 /// In how many slots a value is looked for.
@@ -40,16 +40,28 @@ fn is_known(values: &[&Value], number: usize, value: &Value) -> bool
     values[number].is_same(value)
 }
 
-// The number of the same value, where it stands in one of few slots from one on.
+// One of so many slots: the one of this number, where they are a power of two, those behind the last one being the first.
+#[inline(always)]
+fn wrapped(number: usize, slots: usize) -> usize
+    requires { 0 < slots }
+    ensures { result < slots }
+{
+    number & (slots - 1)
+}
+
+// The number of the same value, where it stands in one of few slots from one on. Behind one in which no value stands it is in none.
 fn known_number(values: &[&Value], slots: &[u32], first: usize, value: &Value) -> Option<usize>
     requires { 0 < length slots.now }
     ensures within { IfSome result (λ number. number < length values.now) }
     ensures same { IfSome result (λ number. value_at (values_seen values.now) number ≡ meaning value.now) }
 {
     for step in 0..MOST_PROBES {
-        let number = slots[first.wrapping_add(step) % slots.len()] as usize;
-        if is_known(values, number, value) {
-            return Some(number);
+        let number = slots[wrapped(first.wrapping_add(step), slots.len())];
+        if number == EMPTY {
+            return None;
+        }
+        if is_known(values, number as usize, value) {
+            return Some(number as usize);
         }
     }
     None
@@ -61,7 +73,7 @@ fn free_slot(slots: &[u32], first: usize) -> usize
     ensures { result < length slots.now }
 {
     for step in 0..MOST_PROBES {
-        let slot = first.wrapping_add(step) % slots.len();
+        let slot = wrapped(first.wrapping_add(step), slots.len());
         if slots[slot] == EMPTY {
             return slot;
         }
@@ -76,7 +88,7 @@ fn slot_of(value: &Value, slots: usize) -> usize
 {
     let mut hasher = FoldHasher::default();
     value.hash(&mut hasher);
-    hasher.finish() as usize % slots
+    wrapped(hasher.finish() as usize, slots)
 }
 
 // Lists a new value, and gives its number.
@@ -123,12 +135,12 @@ fn number_of<'a>(
     }
 }
 
-// A table of empty slots for the distinct ones of so many values.
+// A table of empty slots for the distinct ones of so many values, a power of two of them.
 fn empty_slots(alloc: Global, count: usize) -> Result<Vec<u32>, AllocError>
     ensures { IfOk result (λ slots. 0 < length slots.items) }
 {
     let most = count.saturating_mul(2).min(MOST_SLOTS).max(1);
-    vec![in alloc; EMPTY; most]
+    vec![in alloc; EMPTY; most.next_power_of_two()]
 }
 
 /// The distinct values of a column, in the order of first sight; a value may be listed more than once where hashes
