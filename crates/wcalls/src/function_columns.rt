@@ -62,7 +62,8 @@ fn every_column<'r>(
 /// What functions of a window answer on rows, where `order` has the rows in the window's order: a column for each
 /// function, with a value for each row by its number. An aggregate has a column of values, any other function one of numbers.
 ///
-/// Nothing is skipped: it is `OutOfRange` where an argument or a filter is so on any row, or a result is.
+/// Nothing is skipped: it is `OutOfRange` where an argument or a filter is so on any row, or a result is. Where there are no
+/// functions nothing is worked out, no partition and no frame.
 ///
 /// The tally rises with each join of an aggregate, by three for each row at most, and by eight where the frame clause excludes
 /// rows; other functions take no joins.
@@ -85,6 +86,9 @@ pub fn window_columns<'r>(
         (window_columns (window_plan window.now) (functions_seen functions.now) (rows_seen rows.entry.now)) }
     ensures kept { IfOk result (λ columns. map are_values columns.items ≡ map is_aggregate (functions_seen functions.now)) }
 {
+    if functions.is_empty() {
+        return Ok(Vec::new(alloc));
+    }
     // Room for all columns at once, since a list that grows is held twice while it is moved; and before the frames and the copies, whose
     // room is then free for the answer's text behind the columns.
     let rooms = rooms(alloc, functions, rows.len())?;
