@@ -16,10 +16,12 @@ pub returns-clause-column : goal.returns-clause-column
 returns-clause-column g c w arranged =
     let vs = values_seen c.in_ok-values.values in
     let d = meaning c.in_ok-otherwise.otherwise in
-    let place : ℕ → Option ℕ = λ i. g.P.RowPlaces.place_read c.args.places (length (partition_rows w i)) (partition_at w i) (place_at w i) in
+    let place : ℕ → Option ℕ = λ i. g.P.RowPlaces.place_read c.args.places (length (partition_rows w i)) (partition_at w i)
+    (place_at w i) in
     reading_is w (formula c.args.expr.now) (rows_seen c.args.arranged.now.rows.now) (meaning c.args.default.now)
     (g.P.RowPlaces.place_read c.args.places) vs _ c.in_ok-values.ensures
     (c.in_ok-numbers.ensures w arranged (value_of_number vs d)
-    ∙ map-same (λ i. value_of_number vs d (number_read (partition_rows w i) (place i))) (λ i. value_read vs (partition_rows w i) d (place i))
+    ∙ map-same (λ i. value_of_number vs d (number_read (partition_rows w i) (place i)))
+    (λ i. value_read vs (partition_rows w i) d (place i))
     (λ i. number_kept vs (partition_rows w i) d (place i)) (places (length w.values))
     ∙ ap (λ m. each_row w (λ i. value_read vs (partition_rows w i) m (place i))) c.in_ok-otherwise.ensures)

@@ -26,13 +26,15 @@ pub presorted_order-requires-clause-below : goal.presorted_order-requires-clause
 presorted_order-requires-clause-below c =
     let V : List (List Meaning) = lists_in c.args.values.lists in
     let K : List (List Meaning) = lists_in c.args.keys.lists in
-    numbers_below V c.args.values.orders.items K c.args.keys.orders.items (length K) c.args.presorted.numbers.items c.requires.count c.requires.order
+    numbers_below V c.args.values.orders.items K c.args.keys.orders.items (length K) c.args.presorted.numbers.items c.requires.count
+    c.requires.order
 
 pub presorted_order-requires-clause-len : goal.presorted_order-requires-clause-len
 presorted_order-requires-clause-len c =
     let V : List (List Meaning) = lists_in c.args.values.lists in
     let K : List (List Meaning) = lists_in c.args.keys.lists in
-    numbers_long V c.args.values.orders.items K c.args.keys.orders.items (length K) c.args.presorted.numbers.items c.requires.count c.requires.order
+    numbers_long V c.args.values.orders.items K c.args.keys.orders.items (length K) c.args.presorted.numbers.items c.requires.count
+    c.requires.order
 
 pub kept_order-requires-clause-values : goal.kept_order-requires-clause-values
 kept_order-requires-clause-values c = c.requires.count ∙ sym c.in_ok-order.ensures.len
