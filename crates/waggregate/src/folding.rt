@@ -5,7 +5,8 @@ ghost use Rattle.std.specs.Option.{ForSome};
 ghost use Rattle.wvalues.specs.Meaning.{Int, Meaning, Null, meaning};
 ghost use Rattle.wframe.specs.Cells.{meanings};
 ghost use Rattle.wframe.specs.Places.{Tiles};
-ghost use Rattle.wslide.specs.Aggregates.{tests};
+ghost use Rattle.wplan.specs.declared.resolved.AggregateFunction.TheVariants as functions;
+ghost use Rattle.wslide.specs.Aggregates.{picked_tests, tests};
 ghost use Rattle.wslide.specs.Frames.{folds_of_spans, most_by_queues};
 ghost use Rattle.wslide.specs.Leasts.{IsPlace};
 ghost use Rattle.wrows.specs.Outcomes.{Gives};
@@ -232,6 +233,38 @@ fn put_folds<F: AnsweringFold>(
     put_values(column, batch.rows, fold, &parts)
 }
 
+// Puts how many rows there are in the frame of each row of a batch at the number of the row: those for which the filter is true, where
+// `filter` is what it says of the rows of the batch, in its order, and all if there is none. No value is looked at. The tally rises by
+// the joins that it takes.
+fn put_counts(
+    alloc: Global,
+    filter: Option<&[bool]>,
+    batch: &Batch,
+    column: &mut [Value],
+    tally: &mut Tally,
+) -> Result<(), AnswerFault>
+    requires tiles { Tiles 0 batch.now.partitions.now.spans (length batch.now.partitions.now.keys) }
+    requires len { ForSome filter (λ tests. length tests.now ≡ length batch.now.rows.now) }
+    requires few { length batch.now.rows.now < 2 ^ 31 }
+    requires below { All (λ i. i < length column.old) batch.now.rows.now }
+    ensures joins { tally.new ≤ tally.old + most_by_queues batch.now.partitions.now.frame.exclusion (length batch.now.rows.now) }
+    ensures not_less { tally.old ≤ tally.new }
+    ensures answers { (feed : aggregating.Feed) → tests filter.entry ≡ picked_tests feed.filter batch.now.rows.now
+        → Puts (batch_answers functions.CountRows feed batch.now.partitions.now (batch_start batch.now) (batch_spans batch.now)
+        batch.now.rows.now) batch.now.rows.now result column.old column.new }
+{
+    // Laws, which do nothing.
+    frames_are_rows();
+    picked_rows_feed_alike();
+    counts_are_exact();
+    let fold = CountRows {
+        rows: batch.rows.len(),
+        filter,
+    };
+    let mut meter = Meter::new();
+    put_folds(alloc, &fold, batch, &mut meter, column, tally)
+}
+
 // Puts what an aggregate comes to over the frame of each row of a batch at the number of the row, where `values` and `filter` are
 // what the rows of the batch feed, in its order. It is `OutOfRange` where a result is so. The tally rises by the joins that it takes.
 fn put_fed(
@@ -265,11 +298,7 @@ fn put_fed(
     let filter = lent(filter);
     let mut meter = Meter::new();
     match function {
-        AggregateFunction::CountRows => {
-            let rows = values.len();
-            let fold = CountRows { rows, filter };
-            put_folds(alloc, &fold, batch, &mut meter, column, tally)
-        }
+        AggregateFunction::CountRows => put_counts(alloc, filter, batch, column, tally),
         AggregateFunction::Count => {
             let fold = Count { values, filter };
             put_folds(alloc, &fold, batch, &mut meter, column, tally)
@@ -291,7 +320,7 @@ fn put_fed(
 }
 
 // Puts what an aggregate comes to over the frame of each row of a batch at the number of the row, where `fed` is what all rows
-// feed. What the rows of the batch feed is copied in its order.
+// feed. What the rows of the batch feed is copied in its order, unless rows are counted, at which nobody looks.
 fn put_batch(
     alloc: Global,
     function: AggregateFunction,
@@ -309,9 +338,12 @@ fn put_batch(
     ensures answers { Puts (batch_answers function (fed_by fed.now.argument fed.now.filter.now) batch.now.partitions.now
         (batch_start batch.now) (batch_spans batch.now) batch.now.rows.now) batch.now.rows.now result column.old column.new }
 {
+    let filter = filter_of(alloc, fed.filter, batch.rows)?;
+    if let AggregateFunction::CountRows = function {
+        return put_counts(alloc, lent(&filter), batch, column, tally);
+    }
     let cells = copied_values(alloc, fed.argument, batch.rows)?;
     let values = lent_values(alloc, &cells)?;
-    let filter = filter_of(alloc, fed.filter, batch.rows)?;
     put_fed(alloc, function, &values, &filter, batch, column, tally)
 }
 

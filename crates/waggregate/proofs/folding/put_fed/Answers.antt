@@ -9,32 +9,27 @@ use Rattle.waggregate.specs.Batches.{batch_spans, batch_start}
 use Rattle.waggregate.specs.FrameAnswers.{Puts, batch_answers}
 use Rattle.waggregate.proofs.BatchFacts.{batch_inside}
 use Rattle.waggregate.proofs.FrameFacts.{LeastLaw}
-use Rattle.waggregate.proofs.PickedFacts.{row_counts_alike, value_counts_alike, sums_alike, firsts_alike}
+use Rattle.waggregate.proofs.PickedFacts.{value_counts_alike, sums_alike, firsts_alike}
 use Rattle.waggregate.proofs.folding.put_fed.Goals as goal
 
 pub returns-in-CountRows-clause-answers : goal.returns-in-CountRows-clause-answers
 returns-in-CountRows-clause-answers c feed of =
     let b = c.args.batch.now in
-    let all = b.partitions.now in
-    subst (λ results. Puts results b.rows.now c.put_folds.result c.args.column.now c.put_folds.new.column)
-    (row_counts_alike all (batch_start b) (batch_spans b) feed b.rows.now (batch_inside b c.requires.tiles) c.requires.few
-    c.frames_are_rows.ensures.below c.frames_are_rows.ensures.few (meanings c.args.values.now) (tests c.lent-filter.result)
-    of.picked (c.lent-filter.ensures.value ∙ of.tested)
-    c.counts_are_exact.ensures.rows c.picked_rows_feed_alike.ensures.rows
-    ∙ ap (λ f. batch_answers f feed all (batch_start b) (batch_spans b) b.rows.now) (sym c.in-CountRows.is))
-    c.put_folds.ensures.answers
+    subst (λ results. Puts results b.rows.now c.put_counts.result c.args.column.now c.put_counts.new.column)
+    (ap (λ f. batch_answers f feed b.partitions.now (batch_start b) (batch_spans b) b.rows.now) (sym c.in-CountRows.is))
+    (c.put_counts.ensures.answers feed (c.lent-filter.ensures.value ∙ of.tested))
 
 pub returns-in-Count-clause-answers : goal.returns-in-Count-clause-answers
 returns-in-Count-clause-answers c feed of =
     let b = c.args.batch.now in
     let all = b.partitions.now in
-    subst (λ results. Puts results b.rows.now c.put_folds-in-Count.result c.args.column.now c.put_folds-in-Count.new.column)
+    subst (λ results. Puts results b.rows.now c.put_folds.result c.args.column.now c.put_folds.new.column)
     (value_counts_alike all (batch_start b) (batch_spans b) feed b.rows.now (batch_inside b c.requires.tiles) c.requires.few
     c.frames_are_rows.ensures.below c.frames_are_rows.ensures.few (meanings c.args.values.now) (tests c.lent-filter.result)
     of.picked (c.lent-filter.ensures.value ∙ of.tested)
     c.counts_are_exact.ensures.values c.picked_rows_feed_alike.ensures.count
     ∙ ap (λ f. batch_answers f feed all (batch_start b) (batch_spans b) b.rows.now) (sym c.in-Count.is))
-    c.put_folds-in-Count.ensures.answers
+    c.put_folds.ensures.answers
 
 pub returns-in-Sum-clause-answers : goal.returns-in-Sum-clause-answers
 returns-in-Sum-clause-answers c feed of =
