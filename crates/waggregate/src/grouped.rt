@@ -118,11 +118,14 @@ pub(crate) fn lent_values<'a>(
     Ok(lent)
 }
 
-/// Lists, one behind the other.
+/// Lists, one behind the other. The first one is taken as it is, and the others are moved behind it.
 pub fn joined_lists(alloc: Global, lists: Vec<Vec<Value>>) -> Result<Vec<Value>, AllocError>
     ensures { IfOk result (λ column. map meaning column.items ≡ flat_map (λ list. map meaning list.items) lists.items) }
 {
-    let mut column = Vec::new(alloc);
+    let mut lists = lists.into_iter();
+    let Some(mut column) = lists.next() else {
+        return Ok(Vec::new(alloc));
+    };
     for mut list in lists {
         column.append(&mut list)?;
     }
