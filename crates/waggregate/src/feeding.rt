@@ -13,7 +13,7 @@ ghost use Rattle.waggregate.specs.Feeding.{is_lent, is_null, rows_of, value_or_n
 
 use std::alloc::{AllocError, Global};
 use wplan::Expr;
-use wrows::{AnswerFault, holds, lists, place_of};
+use wrows::{AnswerFault, Condition, lists, place_of};
 use wvalues::Value;
 
 /// What an aggregate's argument has on each row, by the rows' numbers.
@@ -38,13 +38,13 @@ pub struct Fed<'a> {
 }
 
 // Whether a condition is true on each row.
-fn tests(alloc: Global, condition: &Expr, rows: &[&[Value]]) -> Result<Vec<bool>, AnswerFault>
-    ensures gives { Gives (λ tests. Some tests.items) result (filter_of (Some (formula condition.now)) (rows_seen rows.now)) }
+fn tests(alloc: Global, condition: &Condition, rows: &[&[Value]]) -> Result<Vec<bool>, AnswerFault>
+    ensures gives { Gives (λ tests. Some tests.items) result (filter_of (Some (formula condition.now.expr.now)) (rows_seen rows.now)) }
     ensures len { IfOk result (λ tests. length tests.items ≡ length rows.now) }
 {
     let mut tests = Vec::with_capacity(alloc, rows.len())?;
     for row in rows {
-        tests.push(holds(condition, row)?)?;
+        tests.push(condition.holds(row)?)?;
     }
     Ok(tests)
 }
@@ -62,7 +62,8 @@ pub fn filter_rows(
     match condition {
         None => Ok(None),
         Some(condition) => {
-            let tests = tests(alloc, condition, rows)?;
+            let condition = Condition::new(alloc, condition)?;
+            let tests = tests(alloc, &condition, rows)?;
             Ok(Some(tests))
         }
     }

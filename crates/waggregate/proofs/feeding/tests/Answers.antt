@@ -15,7 +15,7 @@ use Rattle.waggregate.proofs.feeding.tests.Goals as goal
 pub returns-in_err-holds-clause-gives : goal.returns-in_err-holds-clause-gives
 returns-in_err-holds-clause-gives c =
     let p = err_from_is_err_and c.from_residual-in_err-holds.result c.from_residual-in_err-holds.ensures.1 in
-    let t = formula c.args.condition.now in
+    let t = formula c.args.condition.now.expr.now in
     let row = row_seen c.row-item.result in
     let rows = rows_seen c.args.rows.now in
     let view : Vec Bool Global → Option (List Bool) = λ tests. Some tests.items in
@@ -25,13 +25,13 @@ returns-in_err-holds-clause-gives c =
 
 pub returns-clause-gives : goal.returns-clause-gives
 returns-clause-gives c =
-    let t = formula c.args.condition.now in
+    let t = formula c.args.condition.now.expr.now in
     some_too _ OutOfRange _ _ (all_in_range (is_out_of_range t) (holds_on t) row_seen OutOfRange c.args.rows.now
     c.loop-row.tests.items c.loop-row.row-index c.loop-row-test.false c.loop-row.invariant.in_range c.loop-row.invariant.so_far)
 
 pub returns-clause-len : goal.returns-clause-len
 returns-clause-len c =
-    let t = formula c.args.condition.now in
+    let t = formula c.args.condition.now.expr.now in
     ap length c.loop-row.invariant.so_far
     ∙ length-map (take c.loop-row.row-index c.args.rows.now) (λ (r : Bor (List Value)). holds_on t (row_seen r))
     ∙ ap length (take_all c.loop-row.row-index c.args.rows.now c.loop-row-test.false)
