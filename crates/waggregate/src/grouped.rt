@@ -5,6 +5,7 @@ ghost use Rattle.std.specs.Option.{ForSome};
 ghost use Rattle.wvalues.specs.Meaning.{meaning};
 ghost use Rattle.wframe.specs.Cells.{meanings};
 ghost use Rattle.wframe.specs.Places.{places};
+ghost use Rattle.wslide.specs.Aggregates.{tests};
 ghost use Rattle.wslide.specs.Laws.{rows_fold};
 ghost use Rattle.wplan.specs.declared.resolved.AggregateFunction.TheVariants as functions;
 ghost use Rattle.wrows.specs.Columns.{in_range};
@@ -135,17 +136,16 @@ pub fn joined_lists(alloc: Global, lists: Vec<Vec<Value>>) -> Result<Vec<Value>,
 // How many rows of each group there are on which a filter is true, all if there is none. No row is looked at.
 fn count_groups(
     alloc: Global,
-    filter: &Option<Vec<bool>>,
+    filter: Option<&[bool]>,
     groups: &[u32],
     count: usize,
     order: &[u32],
 ) -> Result<Vec<Value>, AnswerFault>
-    requires tests { ForSome filter.now (λ tests. length tests.items ≡ length groups.now) }
+    requires tests { ForSome filter (λ tests. length tests.now ≡ length groups.now) }
     requires below { All (λ g. g < count) groups.now }
     requires ordered { All (λ g. g < count) order.now }
     requires few { length groups.now < 2 ^ 31 }
-    ensures gives { (feed : aggregating.Feed) → option_map (λ tests. tests.items) filter.now ≡ feed.filter
-        → Gives (λ column. map meaning column.items) result
+    ensures gives { (feed : aggregating.Feed) → tests filter.entry ≡ feed.filter → Gives (λ column. map meaning column.items) result
         (in_range (map (λ g. aggregate_of functions.CountRows feed (rows_of_group groups.now g)) order.now)) }
     ensures len { IfOk result (λ column. length column.items ≡ length order.now) }
 {
@@ -153,7 +153,7 @@ fn count_groups(
     counts_are_exact();
     let fold = CountRows {
         rows: groups.len(),
-        filter: lent(filter),
+        filter,
     };
     let mut meter = Meter::new();
     fold_groups(alloc, &fold, &mut meter, groups, count, order)
@@ -188,11 +188,7 @@ fn aggregate_values(
     let filter = lent(filter);
     let mut meter = Meter::new();
     match function {
-        AggregateFunction::CountRows => {
-            let rows = groups.len();
-            let fold = CountRows { rows, filter };
-            fold_groups(alloc, &fold, &mut meter, groups, count, order)
-        }
+        AggregateFunction::CountRows => count_groups(alloc, filter, groups, count, order),
         AggregateFunction::Count => {
             let fold = Count { values, filter };
             fold_groups(alloc, &fold, &mut meter, groups, count, order)
@@ -236,7 +232,7 @@ pub fn aggregate_groups(
     ensures len { IfOk result (λ column. length column.items ≡ length order.now) }
 {
     if let AggregateFunction::CountRows = function {
-        return count_groups(alloc, filter, groups, count, order);
+        return count_groups(alloc, lent(filter), groups, count, order);
     }
     let null = Value::Null;
     let values = listed(alloc, argument, &null)?;

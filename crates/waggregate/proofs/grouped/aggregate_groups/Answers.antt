@@ -11,7 +11,7 @@ returns-in-CountRows-clause-gives c =
     let feed = fed_by c.args.argument c.args.filter.now in
     given_alike c.count_groups.result _ _
     (ap (λ f. map (λ g. aggregate_of f feed (rows_of_group c.args.groups.now g)) c.args.order.now) (sym c.in-CountRows.is))
-    (c.count_groups.ensures.gives feed refl)
+    (c.count_groups.ensures.gives feed c.lent.ensures.value)
 
 pub returns-clause-gives : goal.returns-clause-gives
 returns-clause-gives c =

@@ -1,4 +1,4 @@
-use Rattle.std.proofs.Common.{Some, map, refl, subst, sym, ap, ◌∙◌}
+use Rattle.std.proofs.Common.{Some, map, subst, sym, ap, ◌∙◌}
 use Rattle.wframe.specs.Cells.{meanings}
 use Rattle.wframe.specs.Sorting.{sorted}
 use Rattle.wslide.specs.Aggregates.{by_value_in, tests}
@@ -6,28 +6,26 @@ use Rattle.wslide.specs.Lawful.{by_value_in_total}
 use Rattle.waggregate.specs.Aggregating.{aggregate_of, fed_values, first_or_null}
 use Rattle.waggregate.specs.Grouped.{rows_of_group}
 use Rattle.waggregate.proofs.FrameFacts.{LeastLaw}
-use Rattle.waggregate.proofs.GroupFacts.{given_alike, rows_answered, values_answered, sums_answered, firsts_answered}
+use Rattle.waggregate.proofs.GroupFacts.{given_alike, values_answered, sums_answered, firsts_answered}
 use Rattle.waggregate.proofs.grouped.aggregate_values.Goals as goal
 
 pub returns-in-CountRows-clause-gives : goal.returns-in-CountRows-clause-gives
 returns-in-CountRows-clause-gives c = λ feed valued tested.
     let groups = c.args.groups.now in
     let order = c.args.order.now in
-    given_alike c.fold_groups.result _ _
-    (rows_answered groups order c.requires.few feed feed.values (tests c.lent-filter.result) refl
-    (c.lent-filter.ensures.value ∙ tested) c.counts_are_exact.ensures.rows
-    ∙ ap (λ f. map (λ g. aggregate_of f feed (rows_of_group groups g)) order) (sym c.in-CountRows.is))
-    c.fold_groups.ensures.gives
+    given_alike c.count_groups.result _ _
+    (ap (λ f. map (λ g. aggregate_of f feed (rows_of_group groups g)) order) (sym c.in-CountRows.is))
+    (c.count_groups.ensures.gives feed (c.lent-filter.ensures.value ∙ tested))
 
 pub returns-in-Count-clause-gives : goal.returns-in-Count-clause-gives
 returns-in-Count-clause-gives c = λ feed valued tested.
     let groups = c.args.groups.now in
     let order = c.args.order.now in
-    given_alike c.fold_groups-in-Count.result _ _
+    given_alike c.fold_groups.result _ _
     (values_answered groups order c.requires.few feed (meanings c.args.values.now) (tests c.lent-filter.result) valued
     (c.lent-filter.ensures.value ∙ tested) c.counts_are_exact.ensures.values
     ∙ ap (λ f. map (λ g. aggregate_of f feed (rows_of_group groups g)) order) (sym c.in-Count.is))
-    c.fold_groups-in-Count.ensures.gives
+    c.fold_groups.ensures.gives
 
 pub returns-in-Sum-clause-gives : goal.returns-in-Sum-clause-gives
 returns-in-Sum-clause-gives c = λ feed valued tested.
