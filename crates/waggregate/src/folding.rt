@@ -127,7 +127,7 @@ pub(crate) fn push_values<F: AnsweringFold>(
 /// How many rows ahead cells are read before values are put there, so few that a cache holds them until then.
 const AHEAD: usize = 256;
 
-// Whether one of the cells of these rows holds a text. Each is read, whatever was found before.
+// Whether one of the cells of these rows holds a text that lies apart. Each is read, whatever was found before.
 fn hold_text(column: &[Value], rows: &[u32]) -> bool
     requires { All (λ i. i < length column.now) rows.now }
 {
@@ -140,8 +140,8 @@ fn hold_text(column: &[Value], rows: &[u32]) -> bool
     found
 }
 
-// Whether one of the cells holds a text where values are put next. They are looked at where a place begins so many, and what was
-// seen then holds for those that follow. This is a matter of speed alone.
+// Whether one of the cells holds a text that lies apart where values are put next. They are looked at where a place begins so many,
+// and what was seen then holds for those that follow. This is a matter of speed alone.
 fn texts_ahead(column: &[Value], rows: &[u32], place: usize, seen: bool) -> bool
     requires { All (λ i. i < length column.now) rows.now }
 {

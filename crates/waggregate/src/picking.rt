@@ -103,7 +103,8 @@ fn push_without_texts(
 ) -> Result<(), AllocError>
     requires below { All (λ i. i < rows_of argument) rows.now }
     requires none { list_any is_text (picked_values (values_of argument) rows.now) ≡ false }
-    ensures { OnOk result (map meaning copied.new.items ≡ map meaning copied.old.items ++ picked_values (values_of argument.entry) rows.now) }
+    ensures { OnOk result (map meaning copied.new.items ≡ map meaning copied.old.items
+        ++ picked_values (values_of argument.entry) rows.now) }
 {
     for row in rows {
         copied.push(copy_at(argument, *row as usize))?;
@@ -118,7 +119,8 @@ fn push_with_texts(
     copied: &mut Vec<Value>,
 ) -> Result<(), AllocError>
     requires { All (λ i. i < rows_of argument) rows.now }
-    ensures { OnOk result (map meaning copied.new.items ≡ map meaning copied.old.items ++ picked_values (values_of argument.entry) rows.now) }
+    ensures { OnOk result (map meaning copied.new.items ≡ map meaning copied.old.items
+        ++ picked_values (values_of argument.entry) rows.now) }
 {
     for row in rows {
         copied.push(duplicate_at(argument, *row as usize)?)?;
@@ -130,7 +132,8 @@ fn push_with_texts(
 // look at what they share where there is no text.
 fn push_batch(argument: Argument, rows: &[u32], copied: &mut Vec<Value>) -> Result<(), AllocError>
     requires { All (λ i. i < rows_of argument) rows.now }
-    ensures { OnOk result (map meaning copied.new.items ≡ map meaning copied.old.items ++ picked_values (values_of argument.entry) rows.now) }
+    ensures { OnOk result (map meaning copied.new.items ≡ map meaning copied.old.items
+        ++ picked_values (values_of argument.entry) rows.now) }
 {
     if has_text(argument, rows) {
         push_with_texts(argument, rows, copied)
