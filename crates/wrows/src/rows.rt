@@ -11,8 +11,9 @@ ghost use Rattle.wsort.specs.LaidRows.{laid};
 ghost use Rattle.wrows.specs.Laid.{formulas_seen, rows_seen};
 ghost use Rattle.wrows.specs.Plain.{kept_of};
 
+use crate::condition::Condition;
 use crate::fault::AnswerFault;
-use crate::values::{holds, value};
+use crate::values::value;
 use std::alloc::Global;
 use wplan::Expr;
 use wvalues::Value;
@@ -23,14 +24,14 @@ const MOST_ROWS: usize = 2_147_483_647;
 // The rows on which a condition is true.
 fn rows_where<'a>(
     alloc: Global,
-    condition: &Expr,
+    condition: &Condition,
     rows: &[&'a [Value]],
 ) -> Result<Vec<&'a [Value]>, AnswerFault>
-    ensures { Gives (λ held. rows_seen held.items) result (held_rows (Some (formula condition.now)) (rows_seen rows.now)) }
+    ensures { Gives (λ held. rows_seen held.items) result (held_rows (Some (formula condition.now.expr.now)) (rows_seen rows.now)) }
 {
     let mut held = Vec::new(alloc);
     for row in rows {
-        if holds(condition, row)? {
+        if condition.holds(row)? {
             held.push(*row)?;
         }
     }
@@ -47,7 +48,10 @@ fn rows_held<'a>(
 {
     match condition {
         None => Ok(rows),
-        Some(condition) => rows_where(alloc, condition, &rows),
+        Some(condition) => {
+            let condition = Condition::new(alloc, condition)?;
+            rows_where(alloc, &condition, &rows)
+        }
     }
 }
 

@@ -13,7 +13,7 @@ use Rattle.wrows.proofs.rows.rows_where.Goals as goal
 pub returns-in_err-holds : goal.returns-in_err-holds
 returns-in_err-holds c =
     let p = err_from_is_err_and c.from_residual.result c.from_residual.ensures.1 in
-    let t = formula c.args.condition.now in
+    let t = formula c.args.condition.now.expr.now in
     let row = row_seen c.row-item.result in
     let rows = rows_seen c.args.rows.now in
     let view : Vec (Bor (List Value)) Global → List Row = λ held. rows_seen held.items in
@@ -23,6 +23,6 @@ returns-in_err-holds c =
 
 pub returns : goal.returns
 returns c =
-    let t = formula c.args.condition.now in
+    let t = formula c.args.condition.now.expr.now in
     kept_all (is_out_of_range t) (holds_on t) row_seen OutOfRange c.args.rows.now c.loop-row.held.items c.loop-row.row-index
     c.loop-row-test.false c.loop-row.invariant.in_range c.loop-row.invariant.so_far

@@ -7,6 +7,6 @@ use Rattle.wrows.proofs.rows.rows_where.Given as goal
 
 abbrev pub invariant-loop-row : goal.invariant-loop-row
 invariant-loop-row l = record {
-  in_range : list_any (λ r. is_out_of_range (formula l.condition) (row_seen r)) (take l.row-index l.rows) ≡ false;
-  so_far : l.held.items ≡ filter (λ r. holds_on (formula l.condition) (row_seen r)) (take l.row-index l.rows);
+  in_range : list_any (λ r. is_out_of_range (formula l.condition.expr.now) (row_seen r)) (take l.row-index l.rows) ≡ false;
+  so_far : l.held.items ≡ filter (λ r. holds_on (formula l.condition.expr.now) (row_seen r)) (take l.row-index l.rows);
 }
