@@ -64,7 +64,8 @@ pub(crate) fn joined_lists(
         (lists_of (formulas_seen exprs.now) (extended_rows extended.now)) }
     ensures laid { IfOk result (λ cells. length cells.items ≡ length extended.now.rows.now * length exprs.now) }
 {
-    let mut cells = Vec::new(alloc);
+    let count = extended.rows.len();
+    let mut cells = Vec::with_capacity(alloc, count.saturating_mul(exprs.len()))?;
     let mut joined = Vec::new(alloc);
     for (number, row) in extended.rows.iter().enumerate() {
         fill(&mut joined, row, extended.columns, number)?;
