@@ -12,19 +12,9 @@ use crate::extended::ExtendedRows;
 use crate::fault::AnswerFault;
 use crate::rows::push_values;
 use std::alloc::{AllocError, Global};
+use wcolumns::value_or_null;
 use wplan::Expr;
 use wvalues::Value;
-
-// The value of a row in a column, null where it has none.
-fn value_of(column: &[Value], row: usize) -> Result<Value, AllocError>
-    ensures { IfOk result (λ value. meaning value ≡ value_at (map meaning column.now) row) }
-{
-    if row < column.len() {
-        column[row].duplicate()
-    } else {
-        Ok(Value::Null)
-    }
-}
 
 // Appends what some columns have for a row.
 fn push_answers(cells: &mut Vec<Value>, columns: &[&[Value]], row: usize) -> Result<(), AllocError>
@@ -32,7 +22,7 @@ fn push_answers(cells: &mut Vec<Value>, columns: &[&[Value]], row: usize) -> Res
         (λ column. value_at (map meaning column.now) row) columns.now) }
 {
     for column in columns {
-        cells.push(value_of(column, row)?)?;
+        cells.push(value_or_null(column, &Value::Null, row).duplicate()?)?;
     }
     Ok(())
 }

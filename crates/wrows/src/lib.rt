@@ -41,6 +41,6 @@ pub use lent::lent_rows;
 pub use listing::lists;
 pub use place_values::{cells_at, place_of, places_of};
 pub use presorted::presorted_items;
-pub use rows::{kept_rows, not_too_many};
+pub use rows::{MOST_ROWS, kept_rows, not_too_many};
 pub use values::holds;
 pub use wsort::{CodedOrder, numbers, order_by_codes, resorted_numbers, slice_of, sorted_numbers};

@@ -18,8 +18,8 @@ use std::alloc::Global;
 use wplan::Expr;
 use wvalues::Value;
 
-/// The most rows that are kept.
-const MOST_ROWS: usize = 2_147_483_647;
+/// The most rows that are kept, and the most groups that are made.
+pub const MOST_ROWS: usize = 2_147_483_647;
 
 // The rows on which a condition is true.
 fn rows_where<'a>(
