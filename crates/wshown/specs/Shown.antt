@@ -1,6 +1,6 @@
 -- How what a user gave is shown on a terminal.
 use Rattle.std.specs.Prelude.{◌≡◌, ◌⊎◌, ◌==◌, ◌||◌, ◌++◌, ◌-◌, ℕ, zero, suc, Bool, false, not, List, [], ◌∷◌, cond}
-use Rattle.std.specs.Prelude.{IsUtf8, chars, codes, drop, length, replicate, take}
+use Rattle.std.specs.Prelude.{IsUtf8, chars, codes, drop, flat_map, length, replicate, take}
 use Rattle.std.specs.List.{before_first, suffix_len}
 use Rattle.std.specs.Char.{encode_utf8, is_control}
 use Rattle.std.specs.Int.{is_in_range}
@@ -25,6 +25,10 @@ shown_characters (suc left) (c ∷ cs) = shown_character c ++ shown_characters l
 -- the first 60 characters of a text
 abbrev pub shown_text : List ℕ → List ℕ
 shown_text text = shown_characters 60 (chars text)
+
+-- the path of a file, whole
+abbrev pub shown_path : List ℕ → List ℕ
+shown_path path = flat_map shown_character (chars path)
 
 -- the first bytes, which hold 60 characters at least, with those replaced that are no UTF-8
 abbrev pub shown_bytes : List ℕ → List ℕ

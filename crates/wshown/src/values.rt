@@ -1,7 +1,7 @@
 //! Texts and values, cut and without control characters.
 ghost use Rattle.std.specs.Prelude.{◌≡◌, ◌++◌, OnOk, string_bytes};
 ghost use Rattle.std.specs.Fmt.{decimal};
-ghost use Rattle.wshown.specs.Shown.{is_hidden, shown_bytes, shown_character, shown_text, shown_value};
+ghost use Rattle.wshown.specs.Shown.{is_hidden, shown_bytes, shown_character, shown_path, shown_text, shown_value};
 
 use itoa::Buffer;
 use std::alloc::{AllocError, Global};
@@ -53,6 +53,16 @@ pub fn push_text(text: &mut String, value: &str) -> Result<(), AllocError>
         }
         push_character(text, c)?;
         left -= 1;
+    }
+    Ok(())
+}
+
+/// Adds the path of a file as it is shown, whole.
+pub fn push_path(text: &mut String, path: &str) -> Result<(), AllocError>
+    ensures { OnOk result (string_bytes text.new ≡ string_bytes text.old ++ shown_path path.now) }
+{
+    'characters: for c in path.chars() {
+        push_character(text, c)?;
     }
     Ok(())
 }
