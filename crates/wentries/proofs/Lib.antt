@@ -8,5 +8,6 @@ mod Cutting
 pub mod Lows
 pub mod Sizes
 mod Origins
+mod Falls
 mod DealtFacts
 pub mod AddedFacts

@@ -220,7 +220,7 @@ under n es = list_all (λ e. is_above e.name n) es
 abbrev pub kept : NameParts → List Entry → List Entry
 kept n es = filter (λ e. not (is_above e.name n)) es
 
-kept_none : (n : NameParts) (es : List Entry) → under n es ≡ true → kept n es ≡ []
+pub kept_none : (n : NameParts) (es : List Entry) → under n es ≡ true → kept n es ≡ []
 kept_none n [] h = refl
 kept_none n (e ∷ es) h =
     let p = and_parts (is_above e.name n) _ h in
@@ -275,7 +275,7 @@ trimmed_step n bs now k old new lt is value made =
     ∙ trimmed_more n bs k old lt
     ∙ ap (λ m. map (trimmed n) (take m bs) ++ drop m bs) {x = suc k} {y = k + 1} (omega arith)
 
-kept_fewer : (n : NameParts) (es : List Entry) → length (kept n es) ≤ length es
+pub kept_fewer : (n : NameParts) (es : List Entry) → length (kept n es) ≤ length es
 kept_fewer n [] = omega arith
 kept_fewer n (e ∷ es) = by (is_above e.name n) (kept_fewer n es)
   where

@@ -174,10 +174,10 @@ floor_home o bs k d h rises settled =
 -- ---- dropping between
 
 -- none of these is below the floor
-abbrev AreBeside : NameParts → List Entry → Type 0
+abbrev pub AreBeside : NameParts → List Entry → Type 0
 AreBeside n es = AllByRecursion (λ e. is_above e.name n ≡ false) es
 
-kept_all : (n : NameParts) (es : List Entry) → AreBeside n es → kept n es ≡ es
+pub kept_all : (n : NameParts) (es : List Entry) → AreBeside n es → kept n es ≡ es
 kept_all n [] h = refl
 kept_all n (e ∷ es) h = ap (λ b. cond (not b) (e ∷ kept n es) (kept n es)) h.0 ∙ ap (λ l. e ∷ l) (kept_all n es h.1)
 
@@ -192,7 +192,7 @@ beside_parts : (n : NameParts) (xs ys : List Entry) → AreBeside n (xs ++ ys) �
 beside_parts n [] ys h = (tt, h)
 beside_parts n (x ∷ xs) ys h = let rest = beside_parts n xs ys h.1 in ((h.0, rest.0), rest.1)
 
-untouched : (n : NameParts) (bs : List (List Entry)) → AreBeside n (flat bs) → map (trimmed n) bs ≡ bs
+pub untouched : (n : NameParts) (bs : List (List Entry)) → AreBeside n (flat bs) → map (trimmed n) bs ≡ bs
 untouched n [] h = refl
 untouched n (b ∷ bs) h =
     let parts = beside_parts n b (flat bs) h in
@@ -205,7 +205,7 @@ not_above n e isnt = by (is_above e.name n) refl
     by true is = absurd (isnt is)
     by false is = is
 
-origins_beside : (n : NameParts) (es : List Entry) → AreOriginsBelow n.origin (known_entries es) → AreBeside n es
+pub origins_beside : (n : NameParts) (es : List Entry) → AreOriginsBelow n.origin (known_entries es) → AreBeside n es
 origins_beside n [] h = tt
 origins_beside n (e ∷ es) h = (
   not_above n e
@@ -217,7 +217,7 @@ origins_beside n (e ∷ es) h = (
     not_equal : Less ≡ Equal → ⊥
     not_equal e = cc
 
-behind_beside : (n : NameParts) (es : List Entry) → AreBehind n (known_entries es) → AreBeside n es
+pub behind_beside : (n : NameParts) (es : List Entry) → AreBehind n (known_entries es) → AreBeside n es
 behind_beside n [] h = tt
 behind_beside n (e ∷ es) h = (
   not_above n e
@@ -225,7 +225,7 @@ behind_beside n (e ∷ es) h = (
   behind_beside n es h.1,
 )
 
-beside_later : (n : NameParts) (bs : List (List Entry)) (i k : ℕ) → i ≤ k → AreBeside n (flat (drop i bs)) → AreBeside n (flat (drop k bs))
+pub beside_later : (n : NameParts) (bs : List (List Entry)) (i k : ℕ) → i ≤ k → AreBeside n (flat (drop i bs)) → AreBeside n (flat (drop k bs))
 beside_later n [] zero zero le h = h
 beside_later n [] zero (suc k) le h = tt
 beside_later n [] (suc i) zero le h = absurd (omega arith)

@@ -13,12 +13,14 @@ ghost use Rattle.wentries.specs.Entries.{AreBelow, AreOriginsBelow, AllHeldBy, A
 ghost use Rattle.wentries.specs.Entries.{first_from, known_entries, listing_of, AreBehind};
 ghost use Rattle.wentries.specs.Keeping.{AreAdded, BeginWithRuns, HeldHasRun, kept_in, orders_in, plain_block, rows_in};
 ghost use Rattle.wentries.specs.Blocks.{AreFilled, HasRoom, IsGrown, IsHome, IsOriginHome, first_of, flat, half, halved, longest, trimmed};
+ghost use Rattle.wentries.specs.Falls.{IsFall, lives_of};
 ghost use Rattle.wentries.specs.declared.entries.Entry.{Entry as HeldEntry};
 
 use crate::entries::{
     Entry, drop_under, first_from, floor_of, held_of, is_above, keep_runs, list_entries,
     live_count, make_cells, make_runs, put_entry, share_entries,
 };
+use crate::fall::Fall;
 use crate::held::Held;
 use crate::status::Listed;
 use std::alloc::{AllocError, Global};
@@ -111,8 +113,9 @@ impl Block {
         !self.is_full()
     }
 
-    /// Puts what is held of a name, in the place of what was. Where it finds no memory nothing is changed.
-    fn put(&mut self, name: Name, held: Held) -> Result<(), AllocError>
+    /// Puts what is held of a name, in the place of what was, and tells whether there are more or fewer live names then. Where
+    /// it finds no memory nothing is changed.
+    fn put(&mut self, name: Name, held: Held) -> Result<bool, AllocError>
         requires rising { IsRising self.old }
         requires room { HasRoom self.old name }
         ensures ok { OnOk result
@@ -120,11 +123,14 @@ impl Block {
         ensures read { (d : Declaration)
             → AllHeldBy d self.old → IsHeldBy d held → AllHeldBy d self.new }
         ensures more { length self.old ≤ length self.new }
+        ensures lives { IfOk result
+            (λ changes. changes ≡ false → length (kept_in self.new) ≡ length (kept_in self.old)) }
         ensures err { OnErr result (self.new ≡ self.old) }
     {
+        let live = self.live;
         put_entry(&mut self.entries, name, held)?;
         self.live = live_count(&self.entries);
-        Ok(())
+        Ok(self.live != live)
     }
 
     /// Makes the run of these keys of each segment that has none.
@@ -171,15 +177,27 @@ impl Block {
             .all(|entry| is_above(&entry.name, floor))
     }
 
-    /// Drops the entries that are below a floor, unless all are.
-    fn trim(&mut self, floor: &Name)
-        ensures { self.new ≡ trimmed floor.now self.old }
+    /// Drops the entries that are below a floor, unless all are, and tells what the floor drops.
+    fn trim(&mut self, floor: &Name) -> Fall
+        ensures trimmed { self.new ≡ trimmed floor.now self.old }
+        ensures fall { IsFall floor.now (self.old ∷ []) result }
     {
+        let entries = self.entries.len();
+        let live = self.live;
         if self.is_under(floor) {
-            return;
+            return Fall {
+                entries,
+                whole: true,
+                lives: true,
+            };
         }
         drop_under(&mut self.entries, floor);
         self.live = live_count(&self.entries);
+        Fall {
+            entries: entries - self.entries.len(),
+            whole: false,
+            lives: self.live != live,
+        }
     }
 
     /// Whether the origin of its last name stands before this one.
@@ -193,16 +211,19 @@ impl Block {
         last.name.origin().cmp(origin).is_lt()
     }
 
-    /// Puts an entry behind the others. Where it finds no memory nothing is changed.
-    fn push(&mut self, entry: Entry) -> Result<(), AllocError>
+    /// Puts an entry behind the others, and tells whether there are more live names then. Where it finds no memory nothing
+    /// is changed.
+    fn push(&mut self, entry: Entry) -> Result<bool, AllocError>
         requires { length self.old < longest }
         ensures ok { OnOk result (self.new ≡ self.old ++ entry ∷ []) }
+        ensures lives { IfOk result
+            (λ changes. changes ≡ false → length (kept_in self.new) ≡ length (kept_in self.old)) }
         ensures err { OnErr result (self.new ≡ self.old) }
     {
         let live = entry.live_count();
         self.entries.push(entry)?;
         self.live += live;
-        Ok(())
+        Ok(live != 0)
     }
 
     /// The later half of a block that has the most entries.
@@ -356,37 +377,51 @@ pub fn is_low(blocks: &[Block], name: &Name) -> bool
 }
 
 /// Drops the entries that are below a floor, but for blocks of such alone, in the blocks from `start` to `end`: those
-/// before have smaller origins, and those behind have names behind the floor.
-fn trim_all(blocks: &mut Vec<Block>, start: usize, end: usize, floor: &Name)
+/// before have smaller origins, and those behind have names behind the floor. It tells what the floor drops.
+fn trim_all(blocks: &mut Vec<Block>, start: usize, end: usize, floor: &Name) -> Fall
     requires in_range { end < length blocks.old.items }
     requires before { AreOriginsBelow floor.now.origin (known_entries (flat (take start blocks.old.items))) }
     requires behind { AreBehind floor.now (known_entries (flat (drop (suc end) blocks.old.items))) }
-    ensures { blocks.new.items ≡ map (trimmed floor.now) blocks.old.items }
+    ensures trimmed { blocks.new.items ≡ map (trimmed floor.now) blocks.old.items }
+    ensures fall { IsFall floor.now blocks.old.items result }
 {
+    let mut fall = Fall::new();
     'blocks: for k in start..end + 1 {
-        blocks[k].trim(floor);
+        let more = blocks[k].trim(floor);
+        fall = fall.joined(&more);
     }
+    fall
 }
 
-/// Drops the entries that are below a floor. It takes no memory, and looks at no entries but those from the origin's first
-/// block to that of the floor, and at the first of each other block.
-fn drop_all_under(blocks: &mut Vec<Block>, floor: &Name)
+/// Drops the entries that are below a floor, and tells what it drops. It takes no memory, and looks at the blocks from the
+/// origin's first to that of the floor, which are found by binary searches: all between them are dropped. At the first entry
+/// of each other block it looks only where a block is dropped as a whole, which takes 256 names that were put for each time.
+fn drop_all_under(blocks: &mut Vec<Block>, floor: &Name) -> Fall
     requires { IsRising (flat blocks.old.items) }
     ensures known { known_entries (flat blocks.new.items) ≡ above_floor floor.now (known_entries (flat blocks.old.items)) }
     ensures read { (d : Declaration) → AllHeldBy d (flat blocks.old.items) → AllHeldBy d (flat blocks.new.items) }
     ensures fewer { length blocks.new.items ≤ length blocks.old.items }
+    ensures entries { length (flat blocks.old.items) < 2 ^ 64
+        → length (flat blocks.new.items) + result.entries ≡ length (flat blocks.old.items) }
+    ensures lives { result.lives ≡ false → lives_of blocks.new.items ≡ lives_of blocks.old.items }
 {
     if blocks.is_empty() {
-        return;
+        return Fall::new();
     }
     let start = origin_home(blocks, floor.origin());
     let end = home(blocks, floor);
-    trim_all(blocks, start, end, floor);
+    let fall = trim_all(blocks, start, end, floor);
+    if !fall.whole {
+        return fall;
+    }
     blocks.retain(|block| !block.is_under(floor));
+    fall
 }
 
-/// Puts a floor, and drops what is below it. Where it finds no memory no entry is changed.
-pub fn raise_in(alloc: Global, blocks: &mut Vec<Block>, floor: Name) -> Result<(), AllocError>
+/// Puts a floor, drops what is below it, and tells what falls: how many entries of those with the floor, and whether the
+/// number of live names of some block, or that of blocks, may have changed, if only by the floor. Where it finds no memory
+/// no entry is changed.
+pub fn raise_in(alloc: Global, blocks: &mut Vec<Block>, floor: Name) -> Result<Fall, AllocError>
     requires { IsRising (flat blocks.old.items) }
     ensures ok { OnOk result
         (known_entries (flat blocks.new.items)
@@ -395,10 +430,14 @@ pub fn raise_in(alloc: Global, blocks: &mut Vec<Block>, floor: Name) -> Result<(
     ensures err { OnErr result (flat blocks.new.items ≡ flat blocks.old.items) }
     ensures few { length (flat blocks.new.items) ≤ length (put name_cmp floor Floor (known_entries (flat blocks.old.items))) }
     ensures long { length blocks.new.items ≤ length blocks.old.items + 1 }
+    ensures entries { IfOk result (λ fall. length (put name_cmp floor Floor (known_entries (flat blocks.old.items))) < 2 ^ 64
+        → length (flat blocks.new.items) + fall.entries
+        ≡ length (put name_cmp floor Floor (known_entries (flat blocks.old.items)))) }
+    ensures lives { IfOk result (λ fall. fall.lives ≡ false → lives_of blocks.new.items ≡ lives_of blocks.old.items) }
 {
-    put_in(alloc, blocks, floor, Held::Floor)?;
-    drop_all_under(blocks, &floor);
-    Ok(())
+    let changes = put_in(alloc, blocks, floor, Held::Floor)?;
+    let fall = drop_all_under(blocks, &floor);
+    Ok(fall.beside(changes))
 }
 
 /// The number of the floor of an origin. A floor is the first of its origin, so that no block but the first that has a
@@ -413,18 +452,6 @@ pub fn floor_in(blocks: &[Block], origin: &[u8]) -> Option<u32>
     }
     let k = origin_home(blocks, origin);
     floor_of(blocks[k].entries(), origin)
-}
-
-/// The number of entries.
-pub fn entry_count(blocks: &[Block]) -> usize
-    requires { length (flat blocks.now) < 2 ^ 64 }
-    ensures { result ≡ length (flat blocks.now) }
-{
-    let mut count = 0;
-    'blocks: for block in blocks {
-        count += block.entries().len();
-    }
-    count
 }
 
 /// Cuts a block that has the most entries in two halves. Where it finds no memory nothing is changed.
@@ -449,6 +476,7 @@ fn roomy_home(alloc: Global, blocks: &mut Vec<Block>, name: &Name) -> Result<usi
     ensures room { IfOk result (λ k. (d : List HeldEntry) → HasRoom (get_or blocks.new.items k d) name.now) }
     ensures same { flat blocks.new.items ≡ flat blocks.old.items }
     ensures long { length blocks.new.items ≤ length blocks.old.items + 1 }
+    ensures uncut { length blocks.new.items ≡ length blocks.old.items → blocks.new.items ≡ blocks.old.items }
     ensures filled { AreFilled half blocks.old.items → AreFilled half blocks.new.items }
 {
     let k = home(blocks, name);
@@ -488,24 +516,26 @@ fn begin(alloc: Global, blocks: &mut Vec<Block>, entry: Entry) -> Result<(), All
 }
 
 /// Puts an entry behind all others. A block is begun only where the last has the most entries, so that entries which are
-/// put so fill their blocks. Where it finds no memory nothing is changed.
-fn append(alloc: Global, blocks: &mut Vec<Block>, entry: Entry) -> Result<(), AllocError>
+/// put so fill their blocks. It tells whether the number of live names of a block, or that of blocks, changes. Where it finds
+/// no memory nothing is changed.
+fn append(alloc: Global, blocks: &mut Vec<Block>, entry: Entry) -> Result<bool, AllocError>
     ensures ok { OnOk result (flat blocks.new.items ≡ flat blocks.old.items ++ entry ∷ []) }
     ensures err { OnErr result (blocks.new.items ≡ blocks.old.items) }
     ensures grown { IsGrown blocks.old.items blocks.new.items }
     ensures filled { (n : ℕ) → n ≤ longest → AreFilled n blocks.old.items → AreFilled n blocks.new.items }
+    ensures lives { IfOk result (λ changes. changes ≡ false → lives_of blocks.new.items ≡ lives_of blocks.old.items) }
 {
     if end_full(blocks) {
         begin(alloc, blocks, entry)?;
-        return Ok(());
+        return Ok(true);
     }
     let last = blocks.len() - 1;
-    blocks[last].push(entry)?;
-    Ok(())
+    let changes = blocks[last].push(entry)?;
+    Ok(changes)
 }
 
-/// Puts what is held of a name into its home.
-fn put_home(blocks: &mut Vec<Block>, k: usize, name: Name, held: Held) -> Result<(), AllocError>
+/// Puts what is held of a name into its home, and tells whether there are more or fewer live names then.
+fn put_home(blocks: &mut Vec<Block>, k: usize, name: Name, held: Held) -> Result<bool, AllocError>
     requires rising { IsRising (flat blocks.old.items) }
     requires home { IsHome blocks.old.items name k }
     requires room { (d : List HeldEntry) → HasRoom (get_or blocks.old.items k d) name }
@@ -517,19 +547,21 @@ fn put_home(blocks: &mut Vec<Block>, k: usize, name: Name, held: Held) -> Result
     ensures err { OnErr result (flat blocks.new.items ≡ flat blocks.old.items) }
     ensures long { length blocks.new.items ≡ length blocks.old.items }
     ensures filled { AreFilled half blocks.old.items → AreFilled half blocks.new.items }
+    ensures lives { IfOk result (λ changes. changes ≡ false → lives_of blocks.new.items ≡ lives_of blocks.old.items) }
 {
     let block = &mut blocks[k];
-    block.put(name, held)?;
-    Ok(())
+    let changes = block.put(name, held)?;
+    Ok(changes)
 }
 
-/// Puts what is held of a name, in the place of what was. Where it finds no memory no entry is changed.
+/// Puts what is held of a name, in the place of what was, and tells whether the number of live names of a block, or that of
+/// blocks, changes. Where it finds no memory no entry is changed.
 pub fn put_in(
     alloc: Global,
     blocks: &mut Vec<Block>,
     name: Name,
     held: Held,
-) -> Result<(), AllocError>
+) -> Result<bool, AllocError>
     requires { IsRising (flat blocks.old.items) }
     ensures ok { OnOk result
         (known_entries (flat blocks.new.items)
@@ -541,14 +573,17 @@ pub fn put_in(
     ensures long { length blocks.new.items ≤ length blocks.old.items + 1 }
     ensures behind { AreBelow name (known_entries (flat blocks.old.items)) → IsGrown blocks.old.items blocks.new.items }
     ensures filled { AreFilled half blocks.old.items → AreFilled half blocks.new.items }
+    ensures lives { IfOk result (λ changes. changes ≡ false → lives_of blocks.new.items ≡ lives_of blocks.old.items) }
 {
     if end_before(blocks, &name) {
-        append(alloc, blocks, Entry { name, held })?;
-        return Ok(());
+        let grown = append(alloc, blocks, Entry { name, held })?;
+        return Ok(grown);
     }
+    let count = blocks.len();
     let k = roomy_home(alloc, blocks, &name)?;
-    put_home(blocks, k, name, held)?;
-    Ok(())
+    let is_cut = blocks.len() != count;
+    let changes = put_home(blocks, k, name, held)?;
+    Ok(changes || is_cut)
 }
 
 /// The number of entries when something is put of a name, where so many there are now. It errs where there are as many

@@ -16,6 +16,7 @@ use Rattle.wentries.specs.Entries.{AllHeldBy, AreSettled, IsRising, known_entrie
 use Rattle.wentries.specs.Blocks.{IsGrown, flat}
 use Rattle.wset.specs.KeptOrders.{IsNoteOf, IsOrderOf}
 use Rattle.wset.specs.Running.{AreStarts, IsLiveHome, lives_before}
+use Rattle.wentries.specs.Falls.{lives_of}
 use Rattle.wentries.specs.Keeping.{kept_in, rows_in}
 use Rattle.wset.specs.Storing.{declared_view, IsOrderly}
 use Rattle.wset.specs.declared.set.SegmentSet.TheInside.{Inside}
@@ -224,6 +225,36 @@ kept_starts old new starts (suc k) placed le grown h =
       omega (arith, g.more, le),
       starts_grown old new (take (suc k) starts) (omega (arith, length-take (suc k) starts, placed)) g (starts_front old starts (suc k) h),
     )
+
+-- blocks with as many live names each
+same_before : (old new : List (List Entry)) (k : ℕ) → lives_of new ≡ lives_of old → lives_before new k ≡ lives_before old k
+same_before [] [] k same = refl
+same_before [] (c ∷ new) k same = absurd (omega (arith, ap length same))
+same_before (b ∷ old) [] k same = absurd (omega (arith, ap length same))
+same_before (b ∷ old) (c ∷ new) zero same = refl
+same_before (b ∷ old) (c ∷ new) (suc k) same =
+    let here : length (kept_in c) ≡ length (kept_in b) = ap (λ l. get_or l 0 0) same in
+    omega (
+      arith,
+      here,
+      same_before old new k (ap (drop 1) same),
+      length_kept b (flat (take k old)),
+      length_kept c (flat (take k new)),
+    )
+
+pub same_placed : (old new : List (List Entry)) (starts : List ℕ) → lives_of new ≡ lives_of old → length starts ≡ length old
+    → length starts ≡ length new
+same_placed old new starts same placed = omega (
+  arith,
+  placed,
+  ap length same,
+  length-map old (λ b. length (kept_in b)),
+  length-map new (λ b. length (kept_in b)),
+)
+
+pub same_starts : (old new : List (List Entry)) (starts : List ℕ) → lives_of new ≡ lives_of old → AreStarts old starts
+    → AreStarts new starts
+same_starts old new starts same h k lt = h k lt ∙ sym (same_before old new k same)
 
 pub some_block : (bs : List (List Entry)) (i : ℕ) → i < length (kept_in (flat bs)) → 0 < length bs
 some_block [] i lt = absurd (omega (arith, lt))

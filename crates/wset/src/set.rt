@@ -353,10 +353,10 @@ impl SegmentSet {
     }
 
     /// Retires all names of an origin up to this one, for good: a floor. What is held below it is dropped: that looks
-    /// at the entries of the blocks from the origin's first name to the floor, and at the first entry of each other
-    /// block. Where all origins of which something is known stand before that of the floor, nothing is below it, and it
-    /// is put behind all entries as any name is, with no pass over the blocks. A floor that does not rise takes no
-    /// memory; there, and where memory runs out, the set is as it was.
+    /// at the entries of the blocks from the origin's first name to the floor, and takes a step for each other block only
+    /// where a live name is dropped, or blocks come or go. Where all origins of which something is known stand before that
+    /// of the floor, nothing is below it, and it is put behind all entries as any name is, with no pass over the blocks. A
+    /// floor that does not rise takes no memory; there, and where memory runs out, the set is as it was.
     pub fn retire_to(&mut self, name: Name) -> Result<Retired, AllocError>
         ensures word { IfOk result (λ word. word ≡ floor_word self.old.view name) }
         ensures ok { let item = view_of_item (FloorItem name) in

@@ -11,9 +11,7 @@ ghost use Rattle.wset.specs.Running.{AreStarts, IsLiveHome, lives_before};
 ghost use Rattle.wentries.specs.Keeping.{kept_in};
 
 use std::alloc::{AllocError, Global};
-use wentries::{
-    Block, Held, Kept, end_before, end_before_origin, entry_count, live_at, put_in, raise_in,
-};
+use wentries::{Block, Held, Kept, end_before, end_before_origin, live_at, put_in, raise_in};
 use wvalues::Name;
 
 /// The number of live names before the next block to be counted, behind those that are.
@@ -72,8 +70,9 @@ fn count_again(blocks: &[Block], starts: &mut Vec<usize>, kept: usize)
     count_on(blocks, starts);
 }
 
-/// Puts what is held of a name, in the place of what was, and counts again: a step where all names stand before it, and
-/// else one for each block. Where it finds no memory no entry is changed.
+/// Puts what is held of a name, in the place of what was. Where no block has more or fewer live names then, nothing is counted
+/// again, as where a name that is not live is put into a block with room for it; else a step where all names stand before it,
+/// and one for each block where not. Where it finds no memory no entry is changed.
 pub(crate) fn put_counted(
     alloc: Global,
     blocks: &mut Vec<Block>,
@@ -97,19 +96,26 @@ pub(crate) fn put_counted(
 {
     starts.reserve(1)?;
     let kept = starts_kept(blocks, &name);
-    let outcome = put_in(alloc, blocks, name, held);
+    let Ok(changes) = put_in(alloc, blocks, name, held) else {
+        count_again(blocks, starts, kept);
+        return Err(AllocError);
+    };
+    if !changes {
+        return Ok(());
+    }
     count_again(blocks, starts, kept);
-    outcome
+    Ok(())
 }
 
-/// Puts a floor, drops what is below it, and counts again: a step for each block. Where it finds no memory no entry is
+/// Puts a floor, and drops what is below it. Where a block has more or fewer live names then, or blocks came or went, it counts
+/// again: a step for each block. It tells how many entries fall of those with the floor. Where it finds no memory no entry is
 /// changed.
 fn raise_inside(
     alloc: Global,
     blocks: &mut Vec<Block>,
     starts: &mut Vec<usize>,
     floor: Name,
-) -> Result<(), AllocError>
+) -> Result<usize, AllocError>
     requires rising { IsRising (flat blocks.old.items) }
     requires few { length (put name_cmp floor Floor (known_entries (flat blocks.old.items))) < 2 ^ 64 }
     requires placed { length starts.old.items ≡ length blocks.old.items }
@@ -120,18 +126,27 @@ fn raise_inside(
     ensures read { (d : Declaration) → AllHeldBy d (flat blocks.old.items) → AllHeldBy d (flat blocks.new.items) }
     ensures err { OnErr result (flat blocks.new.items ≡ flat blocks.old.items) }
     ensures few { length (flat blocks.new.items) < 2 ^ 64 }
+    ensures fall { IfOk result (λ fall. length (flat blocks.new.items) + fall
+        ≡ length (put name_cmp floor Floor (known_entries (flat blocks.old.items)))) }
     ensures placed { length starts.new.items ≡ length blocks.new.items }
     ensures starts { AreStarts blocks.new.items starts.new.items }
 {
     starts.reserve(1)?;
-    let outcome = raise_in(alloc, blocks, floor);
+    let Ok(fall) = raise_in(alloc, blocks, floor) else {
+        count_again(blocks, starts, 0);
+        return Err(AllocError);
+    };
+    if !fall.lives {
+        return Ok(fall.entries);
+    }
     count_again(blocks, starts, 0);
-    outcome
+    Ok(fall.entries)
 }
 
-/// Puts a floor, drops what is below it, and counts again: a step where all origins stand before that of the floor, as
-/// nothing is below it then, and else one for each block. It tells how many entries there then are, where `count` is their
-/// number with the floor, before anything is dropped. Where it finds no memory no entry is changed.
+/// Puts a floor, and drops what is below it. Where a block has more or fewer live names then, or blocks came or went, it counts
+/// again: a step where all origins stand before that of the floor, as nothing is below it then, and else one for each block. It
+/// tells how many entries there then are, where `count` is their number with the floor, before anything is dropped. Where it
+/// finds no memory no entry is changed.
 pub(crate) fn raise_counted(
     alloc: Global,
     blocks: &mut Vec<Block>,
@@ -157,8 +172,8 @@ pub(crate) fn raise_counted(
         put_counted(alloc, blocks, starts, floor, Held::Floor)?;
         return Ok(count);
     }
-    raise_inside(alloc, blocks, starts, floor)?;
-    Ok(entry_count(blocks))
+    let fall = raise_inside(alloc, blocks, starts, floor)?;
+    Ok(count - fall)
 }
 
 /// The number of live names before each block.

@@ -82,3 +82,13 @@ pub returns-clause-long : goal.returns-clause-long
 returns-clause-long c =
     let h = subst (λ bs. IsHome bs c.args.name.now c.home-k.result) c.deref.ensures.value c.home-k.ensures in
     omega (arith, ap length c.in_ok-cut.ensures.ok, length_halved c.args.blocks.now.items c.home-k.result h.in_range)
+
+pub returns-then-ends_before-clause-uncut : goal.returns-then-ends_before-clause-uncut
+returns-then-ends_before-clause-uncut c same =
+    let h = subst (λ bs. IsHome bs c.args.name.now c.home-k.result) c.deref.ensures.value c.home-k.ensures in
+    absurd (omega (arith, same, ap length c.in_ok-cut.ensures.ok, length_halved c.args.blocks.now.items c.home-k.result h.in_range))
+
+pub returns-clause-uncut : goal.returns-clause-uncut
+returns-clause-uncut c same =
+    let h = subst (λ bs. IsHome bs c.args.name.now c.home-k.result) c.deref.ensures.value c.home-k.ensures in
+    absurd (omega (arith, same, ap length c.in_ok-cut.ensures.ok, length_halved c.args.blocks.now.items c.home-k.result h.in_range))

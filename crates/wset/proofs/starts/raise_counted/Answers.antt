@@ -1,4 +1,4 @@
-use Rattle.std.proofs.Common.{◌∙◌, subst}
+use Rattle.std.proofs.Common.{◌≤◌, ◌∙◌, arith, rules, subst}
 use Rattle.wentries.specs.Blocks.{flat}
 use Rattle.wentries.specs.Entries.{AreOriginsBelow, known_entries}
 use Rattle.wset.proofs.Later.{below_of_origins, floor_alone}
@@ -16,3 +16,11 @@ returns-then-end_before_origin-clause-read c d all = c.put_counted.ensures.read 
 pub returns-then-end_before_origin-clause-behind : goal.returns-then-end_before_origin-clause-behind
 returns-then-end_before_origin-clause-behind c below =
     c.put_counted.ensures.behind (below_of_origins c.args.floor (known_entries (flat c.args.blocks.now.items)) below)
+
+pub overflow_sub-result : goal.overflow_sub-result
+overflow_sub-result c =
+    let fits : c.in_ok-fall.fall ≤ c.args.count = omega (arith, c.in_ok-fall.ensures.fall, c.requires.count) in
+    search rules
+
+pub returns-clause-count : goal.returns-clause-count
+returns-clause-count c = omega (arith, c.in_ok-fall.ensures.fall, c.requires.count)

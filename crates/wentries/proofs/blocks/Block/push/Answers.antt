@@ -1,4 +1,4 @@
-use Rattle.std.proofs.Common.{◌+◌, ◌∷◌, ◌<◌, ◌^◌, [], ap, arith, length, length-append, rules}
+use Rattle.std.proofs.Common.{◌≡◌, ◌+◌, ◌∷◌, ◌<◌, ◌^◌, [], ap, arith, length, length-append, rules}
 use Rattle.wentries.specs.Keeping.{kept_in}
 use Rattle.wentries.proofs.Lives.{kept_few, length_kept}
 use Rattle.wentries.proofs.blocks.Block.push.Goals as goal
@@ -32,3 +32,15 @@ invariant_of-self-2 c =
         ap (λ l. length (kept_in l)) c.in_ok-push.ensures.items,
       );
     }
+
+pub returns-clause-lives : goal.returns-clause-lives
+returns-clause-lives c same =
+    let none : c.live_count-live.result ≡ 0 = search rules in
+    omega (
+      arith,
+      none,
+      c.live_count-live.ensures,
+      length_kept c.self.inside.entries.items (c.args.entry ∷ []),
+      ap (λ l. length (kept_in l)) c.in_ok-push.ensures.items,
+      ap (λ l. length (kept_in l)) c.self.view_is,
+    )

@@ -1,4 +1,4 @@
-use Rattle.std.proofs.Common.{◌≤◌, ◌∙◌, ap, length, sym, subst, arith}
+use Rattle.std.proofs.Common.{◌≤◌, ◌∙◌, ap, length, sym, subst, arith, rules}
 use Rattle.std.specs.FinMap.{put}
 use Rattle.wvalues.specs.Names.{name_cmp}
 use Rattle.wentries.specs.Blocks.{longest}
@@ -30,3 +30,6 @@ returns-clause-more c =
     let sized = put_sized c.self.inside.entries.items c.put_entry.new.entries.items c.args.name (known_of c.args.held)
     (subst IsRising (sym c.self.view_is) c.requires.rising) c.in_ok-put_entry.ensures.ok in
     omega (arith, sized.0, ap length c.self.view_is)
+
+pub returns-clause-lives : goal.returns-clause-lives
+returns-clause-lives c same = search rules
