@@ -6,5 +6,6 @@ pub mod CallFacts
 pub mod SelectFacts
 mod BesideFacts
 mod CountedFacts
+mod FrontFacts
 mod LeadingFacts
 mod Worked

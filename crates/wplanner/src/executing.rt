@@ -176,7 +176,8 @@ fn lent_answer(
 /// The bytes of the answer of a query, as `print` makes them of the table that `execute` answers, or its fault, of a set whose cells
 /// are made, as `execute` wants it. No table is built for one SELECT without GROUP BY whose items are plain columns or answers of calls
 /// over windows, whose rows are printed where they lie. There are two exceptions: no window, an ORDER BY, and OFFSET plus LIMIT at most
-/// 1,024; or windows, and an ORDER BY whose order no run tells.
+/// 1,024; or windows, and an ORDER BY whose order no run tells. Where such a SELECT has no WHERE, no window and no ORDER BY, no row behind
+/// the last that is asked for is listed.
 pub fn answer_text(
     alloc: Global,
     set: &mut SegmentSet,

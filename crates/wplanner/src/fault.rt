@@ -31,7 +31,8 @@ pub enum AskFault {
     /// Q41: more than 2,147,483,647 rows are kept, or groups of all sets together made.
     #[error("there are too many rows")]
     TooManyRows,
-    /// Memory was refused. It judges nothing.
+    /// Memory was refused, or the cells of a live segment are not made (`SegmentSet::make`), which no memory mends. It judges
+    /// nothing.
     #[error("out of memory")]
     NoMemory,
 }

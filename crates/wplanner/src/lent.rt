@@ -24,7 +24,7 @@ use wruns::RowRef;
 use wset::SegmentSet;
 use wtable::{
     NumberedRows, PresortedOrders, TableOrders, asked_of, few_kept_rows, kept_table_rows,
-    numbered_table_rows, presorted_orders, referenced_rows, table_orders,
+    numbered_table_rows, presorted_orders, referenced_rows, standing_rows, table_orders,
 };
 
 // The text of the rows that WHERE keeps, where these are few.
@@ -48,7 +48,42 @@ fn few_text(
     }
 }
 
-// The text of the rows that WHERE keeps, where no order of them is presorted.
+// Whether a SELECT asks for rows of the table as they stand: it keeps all of them, calls for no window and has no order.
+fn asks_for_standing(select: &Selection) -> bool
+    ensures all { result ≡ true → (select_plan select.now).condition ≡ None }
+    ensures unwindowed { result ≡ true → length (select_plan select.now).windows ≡ 0 }
+    ensures unordered { result ≡ true → length (select_plan select.now).keys ≡ 0 }
+{
+    let None = &select.condition else {
+        return false;
+    };
+    if !select.keys.is_empty() {
+        return false;
+    }
+    is_unwindowed(select)
+}
+
+// The text of the rows of the table that are asked for, as they stand. No row behind them is listed.
+fn front_text(
+    alloc: Global,
+    placed: &PlacedSelect,
+    set: &SegmentSet,
+) -> Result<Vec<u8>, AnswerFault>
+    requires reads { ReadsPlaces (select_plan placed.now.select.now) placed.now.places.now }
+    requires sound { is_sound_select (select_plan placed.now.select.now) ≡ true }
+    requires all { (select_plan placed.now.select.now).condition ≡ None }
+    requires unwindowed { length (select_plan placed.now.select.now).windows ≡ 0 }
+    requires unordered { length (select_plan placed.now.select.now).keys ≡ 0 }
+    ensures { Gives (λ bytes. bytes.items) result
+        (text_in (select_plan placed.now.select.now) (select_of (select_plan placed.now.select.now) (rows_of_set set.now))) }
+{
+    let rows = standing_rows(alloc, placed.select, set)?;
+    let bytes = standing_text(alloc, placed, &rows, &[], Layout::Contiguous)?;
+    Ok(bytes)
+}
+
+// The text of the rows that WHERE keeps, where no order of them is presorted: where no order is asked for either, and all are kept, only
+// those that are asked for are listed.
 fn unordered_text(
     alloc: Global,
     placed: &PlacedSelect,
@@ -59,6 +94,9 @@ fn unordered_text(
     ensures { Gives (λ bytes. bytes.items) result
         (text_in (select_plan placed.now.select.now) (select_of (select_plan placed.now.select.now) (rows_of_set set.now))) }
 {
+    if asks_for_standing(placed.select) {
+        return front_text(alloc, placed, set);
+    }
     let kept = kept_table_rows(alloc, &placed.select.condition, set)?;
     rows_text(alloc, placed, kept, PresortedOrders::none(alloc))
 }

@@ -192,7 +192,8 @@ pub(crate) fn select_rows(
     kept_items(alloc, select, &kept, PresortedOrders::none(alloc), work)
 }
 
-// What one SELECT answers on the rows of the set's live segments, where it asks for the first few of them in an order by columns.
+// What one SELECT answers on the rows of the set's live segments, where it asks for the first few of them in an order by columns or in
+// none.
 fn select_leading(
     alloc: Global,
     select: &Selection,
@@ -369,7 +370,8 @@ fn select_listed(
 /// What one SELECT answers on the rows of the set's live segments. Orders of them by columns are taken from the runs that the
 /// segments keep, and runs that are missing are made; nothing else of the set changes. Where WHERE keeps few rows these are put
 /// in order by themselves, and no run is made. Where it only counts them, or only asks for columns of the first few in an order by
-/// columns, it is to take less than a list of them all; of that, as of the use of runs, no clause says anything, and it is measured.
+/// columns or in none, it is to take less than a list of them all; of that, as of the use of runs, no clause says anything, and it is
+/// measured.
 pub(crate) fn select_table_rows(
     alloc: Global,
     select: &Selection,

@@ -170,39 +170,45 @@ items_in_order width s keys none are rows =
 -- rows that agree in the first that are asked for
 pub same_items : (width : ℕ) (s : SelectPlan) (keys : List SortKey) (most : ℕ) → AreInRange (map (λ (o : OutputPlan). o.value) s.items)
     → AreColumns width (map (λ (k : KeyPlan). k.value) s.keys) (map (λ (k : KeyPlan). k.order) s.keys) keys
-    → s.offset ≤ most → s.limit ≡ Some (most - s.offset) → (rows all : List Row)
-    → take most (rows_by keys rows) ≡ take most (rows_by keys all) → items_of s rows ≡ items_of s all
-same_items width s keys most none are within limit rows all same =
-    items_in_order width s keys none are rows ∙ ap Ok (alike s.limit limit) ∙ sym (items_in_order width s keys none are all)
-  where
-    f : Row → Row
-    f = item_row s
+    → ((rows all : List Row) → take most rows ≡ take most all → cut s.offset s.limit rows ≡ cut s.offset s.limit all)
+    → (rows all : List Row) → take most (rows_by keys rows) ≡ take most (rows_by keys all) → items_of s rows ≡ items_of s all
+same_items width s keys most none are asked rows all same =
+    let f : Row → Row = item_row s in
+    let R : List Row = rows_by keys rows in
+    let A : List Row = rows_by keys all in
+    items_in_order width s keys none are rows
+    ∙ ap Ok (sym (map-cut f s.offset s.limit R) ∙ ap (map f) (asked R A same) ∙ map-cut f s.offset s.limit A)
+    ∙ sym (items_in_order width s keys none are all)
 
-    alike : (l : Option ℕ) → l ≡ Some (most - s.offset)
-        → cut s.offset l (map f (rows_by keys rows)) ≡ cut s.offset l (map f (rows_by keys all))
-    alike l e =
-        let n = most - s.offset in
-        let sum : most ≡ s.offset + n = omega (arith, within) in
-        let R : List Row = rows_by keys rows in
-        let A : List Row = rows_by keys all in
-        ap (λ x. cut s.offset x (map f R)) e ∙ sym (map-cut f s.offset (Some n) R)
-        ∙ ap (map f) (first.cut_of_taken s.offset n most R sum ∙ ap (drop s.offset) same ∙ sym (first.cut_of_taken s.offset n most A sum))
-        ∙ map-cut f s.offset (Some n) A ∙ ap (λ x. cut s.offset x (map f A)) (sym e)
+-- so many of the first tell what is cut of all
+pub cut_alike : (offset : ℕ) (limit : Option ℕ) (n most : ℕ) → limit ≡ Some n → most ≡ offset + n → (rows all : List Row)
+    → take most rows ≡ take most all → cut offset limit rows ≡ cut offset limit all
+cut_alike offset limit n most e sum rows all same =
+    ap (λ l. cut offset l rows) e ∙ first.cut_of_taken offset n most rows sum ∙ ap (drop offset) same
+    ∙ sym (first.cut_of_taken offset n most all sum) ∙ sym (ap (λ l. cut offset l all) e)
 
 pub answers : (width : ℕ) (s : SelectPlan) (keys : List SortKey) (most : ℕ)
     → s.condition ≡ None → s.grouping ≡ None → length s.windows ≡ 0 → AreInRange (map (λ (o : OutputPlan). o.value) s.items)
     → AreColumns width (map (λ (k : KeyPlan). k.value) s.keys) (map (λ (k : KeyPlan). k.order) s.keys) keys
-    → s.offset ≤ most → s.limit ≡ Some (most - s.offset) → (all : List Row) (found : Option (Vec (Bor (List Value)) Global))
-    → IfSome found (λ rows. (more : List Row)
-    → take most (rows_by keys (rows_seen rows.items ++ more)) ≡ take most (rows_by keys (all ++ more)))
+    → ((rows all : List Row) → take most rows ≡ take most all → cut s.offset s.limit rows ≡ cut s.offset s.limit all)
+    → (all : List Row) (found : Option (Vec (Bor (List Value)) Global))
+    → IfSome found (λ rows. take most (rows_by keys (rows_seen rows.items)) ≡ take most (rows_by keys all))
     → IfSome found (λ rows. length rows.items < 2048) → IfSome found (λ rows. AnswerForAll s all (rows_seen rows.items))
-answers width s keys most condition grouping windows none are within limit all None leads few = tt
-answers width s keys most condition grouping windows none are within limit all (Some rows) leads few = record {
+answers width s keys most condition grouping windows none are asked all None leads few = tt
+answers width s keys most condition grouping windows none are asked all (Some rows) leads few = record {
   condition = condition;
   grouping = grouping;
   windows = windows;
-  items = same_items width s keys most none are within limit (rows_seen rows.items) all
-      (ap (λ l. take most (rows_by keys l)) (sym (append-nil (rows_seen rows.items))) ∙ leads []
-      ∙ ap (λ l. take most (rows_by keys l)) (append-nil all));
+  items = same_items width s keys most none are asked (rows_seen rows.items) all leads;
   few = subst (λ n. n < 2048) (sym (length-map rows.items row_seen)) few;
 }
+
+-- rows that stand for all, whatever follows
+pub leads_alone : (keys : List SortKey) (most : ℕ) (all : List Row) (found : Option (Vec (Bor (List Value)) Global))
+    → IfSome found (λ rows. (more : List Row)
+    → take most (rows_by keys (rows_seen rows.items ++ more)) ≡ take most (rows_by keys (all ++ more)))
+    → IfSome found (λ rows. take most (rows_by keys (rows_seen rows.items)) ≡ take most (rows_by keys all))
+leads_alone keys most all None leads = tt
+leads_alone keys most all (Some rows) leads =
+    ap (λ l. take most (rows_by keys l)) (sym (append-nil (rows_seen rows.items))) ∙ leads []
+    ∙ ap (λ l. take most (rows_by keys l)) (append-nil all)

@@ -6,5 +6,7 @@ mod DifferFacts
 pub mod NumberFacts
 pub mod ReferenceFacts
 mod CountedFacts
+mod ServedFacts
 pub mod FirstFacts
+pub mod FrontFacts
 pub mod LeadingFacts

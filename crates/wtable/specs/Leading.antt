@@ -74,9 +74,8 @@ pub record AsksColumns (s : Selection) : Type 0 where
   pub windows : length s.windows.items ≡ 0
   pub items : All IsColumnItem s.items.items
 
--- it asks for the first few rows, and not for none, in an order by columns of rows that are so wide
+-- it asks for the first few rows in an order by columns of rows that are so wide
 pub record AsksFirst (width : ℕ) (s : Selection) : Type 0 where
   pub columns : AsksColumns s
   pub keys : All (IsColumnKey width) s.keys.items
   pub few : is_selected s.offset s.limit ≡ true
-  pub some : s.limit ≡ Some 0 → 0 < s.offset

@@ -3,3 +3,4 @@ pub mod Few
 pub mod TableOrders
 pub mod Referenced
 pub mod Leading
+pub mod Front

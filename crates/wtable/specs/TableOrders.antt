@@ -1,10 +1,10 @@
 -- Orders of the table's rows by columns, of which those rows are left that a condition keeps.
-use Rattle.std.specs.Prelude.{◌≡◌, ◌<◌, ◌+◌, ◌-◌, ◌^◌, ℕ, Bool, true, false, if◌then◌else◌, List, [], ◌∷◌, All, IfSome}
+use Rattle.std.specs.Prelude.{◌≡◌, ◌⊎◌, ◌<◌, ◌≤◌, ◌+◌, ◌-◌, ◌^◌, ℕ, Bool, true, false, if◌then◌else◌, List, [], ◌∷◌, All, IfSome}
 use Rattle.std.specs.Prelude.{filter, length, map, min, nat_lt, Option, Some, None, Result, Ok, slice_index_or, Vec}
 use Rattle.std.specs.Global.{Global}
 use Rattle.wvalues.specs.declared.key.SortKey.{SortKey}
 use Rattle.wvalues.specs.Meaning.{Meaning}
-use Rattle.wplan.specs.declared.expr.Expr.{out-Expr}
+use Rattle.wplan.specs.declared.expr.Expr.{Expr, out-Expr}
 use Rattle.wplan.specs.declared.resolved.ResolvedKey.{ResolvedKey}
 use Rattle.wplan.specs.declared.resolved.ResolvedWindow.{ResolvedWindow}
 use Rattle.wshare.specs.Sameness.{is_same_order}
@@ -35,6 +35,16 @@ is_within width (Some place) = nat_lt place width
 -- a key that is one of so many columns
 abbrev pub IsColumnKey : ℕ → ResolvedKey → Type 0
 IsColumnKey width key = is_within width (plain_place (out-Expr key.value)) ≡ true
+
+-- a value that is one of so many columns
+abbrev pub IsColumnValue : ℕ → Expr → Type 0
+IsColumnValue width value = is_within width (plain_place (out-Expr value)) ≡ true
+
+-- a window by some of so many columns: it has partition values or keys, and each of them is one
+pub record IsColumnWindow (width : ℕ) (w : ResolvedWindow) : Type 0 where
+  pub partition : All (IsColumnValue width) w.partition.items
+  pub keys : All (IsColumnKey width) w.keys.items
+  pub some : 0 < length w.partition.items + length w.keys.items
 
 -- how a key orders, whatever it is of
 abbrev pub direction : SortKey → SortKey
@@ -90,6 +100,15 @@ pub record IsTableOrder (segments : List (List Row)) (t : TableOrder) : Type 0 w
 -- an order of the table's rows that is also that of a window
 abbrev pub shares : ResolvedWindow → TableOrder → Bool
 shares window t = is_same_order t.window.now window
+
+-- one of some orders of the table's rows is that of a window, or is also that
+abbrev pub HasOrder : ResolvedWindow → List TableOrder → Type 0
+HasOrder window [] = ⊥
+HasOrder window (t ∷ ts) = (t.window.now ≡ window) ⊎ ((shares window t ≡ true) ⊎ HasOrder window ts)
+
+-- a window by columns has an order, or there are as many as are taken from runs
+abbrev pub IsServed : ℕ → List TableOrder → ResolvedWindow → Type 0
+IsServed width orders window = IsColumnWindow width window → (4 ≤ length orders) ⊎ HasOrder window orders
 
 -- a presorted order that is also that of a window
 abbrev pub presorts : ResolvedWindow → PresortedOrder → Bool

@@ -1,6 +1,6 @@
 //! The table's rows, as the live segments of a set have them.
-ghost use Rattle.std.specs.Prelude.{◌≡◌, ◌+◌, ◌<◌, ◌≤◌, ◌∷◌, ◌++◌, [], if◌then◌else◌, false, true, IfNone, IfOk, IfSome, OnOk, Some, filter};
-ghost use Rattle.std.specs.Prelude.{length, map};
+ghost use Rattle.std.specs.Prelude.{◌≡◌, ◌+◌, ◌<◌, ◌≤◌, ◌∷◌, ◌++◌, [], if◌then◌else◌, false, true, IfNone, IfOk, IfSome};
+ghost use Rattle.std.specs.Prelude.{OnOk, Some, filter, length, map};
 ghost use Rattle.std.specs.List.{list_any};
 ghost use Rattle.wvalues.specs.Meaning.{meaning};
 ghost use Rattle.weval.specs.NumberTests.{passes_all};
@@ -45,7 +45,7 @@ pub(crate) fn push_rows<'a>(rows: &mut Vec<&'a [Value]>, kept: &'a Kept) -> Resu
 fn table_rows(alloc: Global, set: &SegmentSet) -> Result<Vec<&[Value]>, AllocError>
     ensures { IfOk result (λ rows. rows_seen rows.items ≡ rows_of_set set.now) }
 {
-    let mut rows = Vec::new(alloc);
+    let mut rows = Vec::with_capacity(alloc, row_count(set))?;
     'segments: for (_, segment) in set.lives() {
         push_rows(&mut rows, segment)?;
     }

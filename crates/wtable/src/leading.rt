@@ -1,6 +1,6 @@
 //! The first rows of the table in an order by columns, where few are asked for: they are found while the rows are gone over, and
 //! no list of the others is made.
-ghost use Rattle.std.specs.Prelude.{◌≡◌, ◌<◌, ◌≤◌, ◌+◌, ◌-◌, ◌∷◌, ◌++◌, [], false, true, All, IfNone, IfOk, IfSome, List};
+ghost use Rattle.std.specs.Prelude.{◌≡◌, ◌<◌, ◌≤◌, ◌+◌, ◌-◌, ◌==◌, ◌||◌, ◌∷◌, ◌++◌, [], false, true, All, IfNone, IfOk, IfSome, List};
 ghost use Rattle.std.specs.Prelude.{None, OnOk, Some};
 ghost use Rattle.std.specs.Prelude.{length, map, slice_index_or, take, ℕ};
 ghost use Rattle.std.specs.Option.{is_some};
@@ -14,6 +14,7 @@ ghost use Rattle.wtable.specs.Leading.{AnswerForAll, AreInRange, AsksColumns, As
 ghost use Rattle.wtable.specs.Leading.{is_behind, rows_by};
 ghost use Rattle.wtable.specs.Tables.{rows_of_set};
 
+use crate::front::front_rows;
 use crate::orders::{asked_of, key_columns};
 use std::alloc::{AllocError, Global};
 use std::cmp::Ordering;
@@ -199,7 +200,6 @@ fn first_rows<'a>(
 
 // How many rows a SELECT asks for of the first in its order, with those left out first, where these are few.
 fn few_asked(select: &Selection) -> Option<usize>
-    ensures some { IfSome result (λ most. 0 < most) }
     ensures few { IfSome result (λ most. most ≤ 1024) }
     ensures offset { IfSome result (λ most. select.now.offset ≤ most) }
     ensures limit { IfSome result (λ most. select.now.limit ≡ Some (most - select.now.offset)) }
@@ -210,10 +210,37 @@ fn few_asked(select: &Selection) -> Option<usize>
         return None;
     }
     let most = select.offset + limit;
-    if most == 0 {
-        return None;
-    }
     Some(most as usize)
+}
+
+// Whether the first rows in order are the first as they stand: there are no keys, or no row is asked for.
+fn stand_first(keys: &[SortKey], most: usize) -> bool
+    ensures { result ≡ (most == 0 || length keys.now == 0) }
+{
+    most == 0 || keys.is_empty()
+}
+
+// Rows among which are the first of all; none where rows were left out too often. Where the first stand in front, none behind them are
+// looked at.
+fn few_rows<'a>(
+    alloc: Global,
+    keys: &[SortKey],
+    most: usize,
+    set: &'a SegmentSet,
+) -> Result<Option<Vec<&'a [Value]>>, AllocError>
+    requires fewer { most ≤ 1024 }
+    ensures leads { IfOk result (λ found. IfSome found (λ rows.
+        take most (rows_by keys.now (rows_seen rows.items)) ≡ take most (rows_by keys.now (rows_of_set set.now)))) }
+    ensures few { IfOk result (λ found. IfSome found (λ rows. length rows.items < 2048)) }
+    ensures least { (most == 0 || length keys.now == 0) ≡ true → IfOk result (λ found. IfSome found (λ rows. length rows.items ≤ most)) }
+    ensures given { IfOk result (λ found. IfNone found (12288 ≤ length (rows_of_set set.now))) }
+{
+    if stand_first(keys, most) {
+        let rows = front_rows(alloc, set, most)?;
+        return Ok(Some(rows));
+    }
+    let found = first_rows(alloc, keys, most, set)?;
+    Ok(found)
 }
 
 // Whether items are plain columns, which are out of range on no row.
@@ -250,9 +277,10 @@ fn only_orders(select: &Selection) -> bool
 }
 
 /// Rows of the set's live segments among which are all that the SELECT answers, where it asks for plain columns only, in an order by
-/// columns or in none, and OFFSET plus LIMIT is 1 to 1,024. `None` for another SELECT, or after 12 cuts of the rows that are held,
-/// which takes at least 12,288 rows. Fewer than 2,048 rows, lent from the segments. The one error is that memory was refused, or of a
-/// set whose cells are not made (`SegmentSet::make`).
+/// columns or in none, and OFFSET plus LIMIT is at most 1,024. `None` for another SELECT, or after 12 cuts of the rows that are held,
+/// which takes at least 12,288 rows. Fewer than 2,048 rows, lent from the segments: without an order the first ones, as many as OFFSET
+/// plus LIMIT, and none where both are 0; then no others are looked at. The one error is that memory was refused, or of a set whose cells
+/// are not made (`SegmentSet::make`).
 pub fn leading_rows<'a>(
     alloc: Global,
     select: &Selection,
@@ -274,6 +302,6 @@ pub fn leading_rows<'a>(
     let Some(keys) = columns else {
         return Ok(None);
     };
-    let found = first_rows(alloc, &keys, most, set)?;
+    let found = few_rows(alloc, &keys, most, set)?;
     Ok(found)
 }

@@ -3,7 +3,7 @@
 //! - Gives the rows that WHERE keeps, all of them or only where they are few, and their number where nothing else is asked;
 //!   the orders of all rows by columns, for windows and for ORDER BY, from the runs that segments keep; the numbers of the
 //!   kept rows in these orders, and the rows themselves that references tell. Where few rows of an order are asked for, it gives
-//!   rows that stand for all.
+//!   rows that stand for all; where no order is, the first rows as they stand.
 //! - Promises: rows stand by name and then by place, and stay where they lie. WHERE is evaluated on every row, so one on
 //!   which it is out of range refuses. What an order of all rows gives of the kept ones is the one that sorting them
 //!   gives; where an order says that no two rows share the keys of its window, none of the kept ones do. What a set knows
@@ -14,10 +14,11 @@
 //! - Leaves runs to `wruns` and `wset`, single rows to `wrows`, windows to `wcalls`, and answers to `wplanner`.
 //!
 //! Read `specs/Tables.antt`, `specs/TableOrders.antt`, `specs/Referenced.antt`, `specs/Leading.antt`,
-//! then `specs/Few.antt`.
+//! `specs/Front.antt`, then `specs/Few.antt`.
 #![tactic(auto)]
 
 mod counting;
+mod front;
 mod kept_rows;
 mod leading;
 mod numbered_rows;
@@ -26,6 +27,7 @@ mod presorted;
 mod referenced;
 
 pub use counting::kept_count;
+pub use front::standing_rows;
 pub use kept_rows::{few_kept_rows, kept_table_rows};
 pub use leading::leading_rows;
 pub use numbered_rows::{NumberedRows, numbered_table_rows};

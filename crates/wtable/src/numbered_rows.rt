@@ -15,6 +15,7 @@ ghost use Rattle.wtable.specs.TableOrders.{AreNumbers, IsNumbered, all_present, 
 ghost use Rattle.wtable.specs.TableOrders.{number_kept, numbers_kept, presorted_numbers, starts_from};
 ghost use Rattle.wtable.specs.Tables.{rows_of_set};
 
+use crate::counting::row_count;
 use crate::kept_rows::{push_rows, push_where};
 use std::alloc::{AllocError, Global};
 use wplan::Expr;
@@ -106,7 +107,7 @@ fn rows_where<'a>(
 {
     let mut rows = Vec::new(alloc);
     let mut starts = Vec::new(alloc);
-    let mut numbers = Vec::new(alloc);
+    let mut numbers = Vec::with_capacity(alloc, row_count(set))?;
     'segments: for (_, segment) in set.lives() {
         starts.push(numbers.len())?;
         push_rows_numbered(&mut rows, &mut numbers, condition, segment)?;
@@ -125,7 +126,7 @@ fn all_rows(alloc: Global, set: &SegmentSet) -> Result<NumberedRows<'_>, AllocEr
     ensures numbers { IfOk result (λ kept. kept.numbers ≡ None) }
     ensures fit { IfOk result (λ kept. length (rows_of_set set.now) < 2 ^ 64) }
 {
-    let mut rows = Vec::new(alloc);
+    let mut rows = Vec::with_capacity(alloc, row_count(set))?;
     let mut starts = Vec::new(alloc);
     'segments: for (_, segment) in set.lives() {
         starts.push(rows.len())?;

@@ -15,7 +15,7 @@ ghost use Rattle.wruns.specs.Runs.{joined};
 ghost use Rattle.wset.specs.Running.{live_rows};
 ghost use Rattle.wset.specs.Sets.{Becomes};
 ghost use Rattle.wtable.specs.TableOrders.{AreColumns, AreTableOrders, AreWindowKeys, IsOrderFor, IsTableOrder, by_keys};
-ghost use Rattle.wtable.specs.TableOrders.{IsColumnKey, direction, is_within, shares};
+ghost use Rattle.wtable.specs.TableOrders.{IsColumnKey, IsColumnValue, IsColumnWindow, IsServed, direction, is_within, shares};
 ghost use Rattle.wplan.specs.declared.expr.Expr.{out-Expr};
 ghost use Rattle.wrows.specs.PlainColumns.{plain_place};
 ghost use Rattle.wtable.specs.Few.{asks_for_order, asks_for_orders as are_orders_asked};
@@ -107,8 +107,9 @@ fn partition_columns(
     partition: &[Expr],
     width: usize,
 ) -> Result<Option<Vec<SortKey>>, AllocError>
-    ensures { IfOk result (λ found. IfSome found (λ keys. AreColumns width (map formula partition.now)
+    ensures keys { IfOk result (λ found. IfSome found (λ keys. AreColumns width (map formula partition.now)
         (ascending (map formula partition.now)) keys.items)) }
+    ensures none { IfOk result (λ found. IfNone found (¬ (All (IsColumnValue width) partition.now))) }
 {
     let mut keys = Vec::with_capacity(alloc, partition.len())?;
     for value in partition {
@@ -148,7 +149,10 @@ fn window_columns(
     window: &ResolvedWindow,
     width: usize,
 ) -> Result<Option<Vec<SortKey>>, AllocError>
-    ensures { IfOk result (λ found. IfSome found (λ keys. AreWindowKeys (window_plan window.now) keys.items)) }
+    ensures keys { IfOk result (λ found. IfSome found (λ keys. AreWindowKeys (window_plan window.now) keys.items)) }
+    ensures long { IfOk result (λ found. IfSome found (λ keys.
+        length keys.items ≡ length window.now.partition.items + length window.now.keys.items)) }
+    ensures none { IfOk result (λ found. IfNone found (¬ (IsColumnWindow width window.now))) }
 {
     let partition = partition_columns(alloc, &window.partition, width)?;
     let Some(mut keys) = partition else {
@@ -224,6 +228,8 @@ fn add_order<'a>(
     ensures orders { OnOk result (All (IsTableOrder (live_rows set.old)) orders.new.items) }
     ensures few { length orders.old.items ≤ 4 → OnOk result (length orders.new.items ≤ 4) }
     ensures more { OnOk result (length orders.old.items ≤ length orders.new.items) }
+    ensures served { OnOk result (IsServed width orders.new.items window.entry.now) }
+    ensures still { (w : ResolvedWindow) → IsServed width orders.old.items w → OnOk result (IsServed width orders.new.items w) }
     ensures idle { OnOk result (length orders.new.items ≡ length orders.old.items → set.new ≡ set.old) }
     ensures same { Becomes set.old set.old.view set.new }
 {
@@ -257,6 +263,7 @@ fn window_orders<'a>(
 ) -> Result<Vec<TableOrder<'a>>, AllocError>
     ensures orders { IfOk result (λ orders. All (IsTableOrder (live_rows set.old)) orders.items) }
     ensures few { IfOk result (λ orders. length orders.items ≤ 4) }
+    ensures served { IfOk result (λ orders. All (IsServed (length set.old.schema.columns) orders.items) windows.entry.now) }
     ensures idle { IfOk result (λ orders. length orders.items ≡ 0 → set.new ≡ set.old) }
     ensures same { Becomes set.old set.old.view set.new }
 {
@@ -330,7 +337,8 @@ fn key_order(
 }
 
 /// The table's rows in the orders that a SELECT over it asks for, where these are by columns and the rows are not grouped: in
-/// four of them at most, those of its windows first. They come from the runs that the segments keep; runs that are missing are
+/// four of them at most, those of its windows first: each window by columns has one, itself or by another window that it shares it with,
+/// unless four are taken before. They come from the runs that the segments keep; runs that are missing are
 /// made, and orders that are merged of them are kept. Where there is no order by columns, or the SELECT asks for none, the set stays
 /// as it is. The one error is that memory was refused.
 pub fn table_orders<'a>(
@@ -340,6 +348,8 @@ pub fn table_orders<'a>(
 ) -> Result<TableOrders<'a>, AllocError>
     ensures orders { IfOk result (AreTableOrders (live_rows set.old) (select_plan select.entry.now).keys) }
     ensures few { IfOk result (λ t. length t.windows.items + (if is_some t.keys then 1 else 0) ≤ 4) }
+    ensures served { IfOk result (λ t. select.entry.now.grouping ≡ None
+        → All (IsServed (length set.old.schema.columns) t.windows.items) select.entry.now.windows.items) }
     ensures keys { IfOk result (λ t. select.entry.now.grouping ≡ None → asks_for_order select.entry.now ≡ true
         → length t.windows.items < 4 → All (IsColumnKey (length set.old.schema.columns)) select.entry.now.keys.items
         → is_some t.keys ≡ true) }

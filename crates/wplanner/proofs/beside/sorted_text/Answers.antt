@@ -13,8 +13,8 @@ returns-in_err-numbers c =
     let p = err_from_is_err_and c.from_residual.result c.from_residual.ensures.1 in
     let view : Vec ℕ Global → List ℕ = λ numbers. numbers.items in
     rw (p.1, p.2)
-    (sorted_fails (select_plan c.args.placed.now.select.now) c.args.placed.now.places.now c.requires.reads view view c.in_err-numbers.field-0.0
-    (rows_seen c.args.rows.now) c.requires.sound c.requires.unwindowed c.in_err-numbers.ensures)
+    (sorted_fails (select_plan c.args.placed.now.select.now) c.args.placed.now.places.now c.requires.reads view view
+    c.in_err-numbers.field-0.0 (rows_seen c.args.rows.now) c.requires.sound c.requires.unwindowed c.in_err-numbers.ensures)
 
 pub returns : goal.returns
 returns c =

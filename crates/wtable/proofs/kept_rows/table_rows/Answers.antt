@@ -7,7 +7,7 @@ use Rattle.wtable.proofs.kept_rows.table_rows.Goals as goal
 
 pub segments-init : goal.segments-init
 segments-init c =
-    rw c.new-rows.ensures.items (ap (flat_map (λ e. e.1.rows)) c.into_iter-segment-iterator.ensures.into_iter_gives
+    rw c.in_ok-rows.ensures.items (ap (flat_map (λ e. e.1.rows)) c.into_iter-segment-iterator.ensures.into_iter_gives
     ∙ set_rows c.args.set.now c.lives-segment-items.result c.lives-segment-items.ensures)
 
 pub segments-preserved : goal.segments-preserved

@@ -12,9 +12,9 @@ use Rattle.wtable.proofs.numbered_rows.all_rows.Goals as goal
 
 pub segments-init : goal.segments-init
 segments-init c = record {
-  so_far = rw c.new-rows.ensures.items (ap (flat_map (λ e. e.1.rows)) c.into_iter-segment-iterator.ensures.into_iter_gives
+  so_far = rw c.in_ok-rows.ensures.items (ap (flat_map (λ e. e.1.rows)) c.into_iter-segment-iterator.ensures.into_iter_gives
       ∙ set_rows c.args.set.now c.lives-segment-items.result c.lives-segment-items.ensures);
-  starts = rw (c.new-rows.ensures.items, c.new-starts.ensures.items) (ap (λ l. starts_from 0 (map (λ e. e.1.rows) l))
+  starts = rw (c.in_ok-rows.ensures.items, c.new-starts.ensures.items) (ap (λ l. starts_from 0 (map (λ e. e.1.rows) l))
       c.into_iter-segment-iterator.ensures.into_iter_gives
       ∙ ap (starts_from 0) (lent_rows_are c.args.set.now c.lives-segment-items.result c.lives-segment-items.ensures));
 }

@@ -24,10 +24,10 @@ segments-init c =
     record {
       held = none_held t (rows_of_set c.args.set.now) (rows_seen c.new-rows.result.items) c.lives-segment-items.result _
           (ap rows_seen c.new-rows.ensures.items) c.into_iter-segment-iterator.ensures.into_iter_gives all;
-      numbers = rw (c.new-rows.ensures.items, c.new-numbers.ensures.items)
+      numbers = rw (c.new-rows.ensures.items, c.in_ok-numbers.ensures.items)
           (ap (λ l. numbers_kept (holds_on t) 0 (flat_map (λ e. e.1.rows) l))
           c.into_iter-segment-iterator.ensures.into_iter_gives ∙ ap (numbers_kept (holds_on t) 0) all);
-      starts = rw (c.new-numbers.ensures.items, c.new-starts.ensures.items) (ap (λ l. starts_from 0 (map (λ e. e.1.rows) l))
+      starts = rw (c.in_ok-numbers.ensures.items, c.new-starts.ensures.items) (ap (λ l. starts_from 0 (map (λ e. e.1.rows) l))
           c.into_iter-segment-iterator.ensures.into_iter_gives
           ∙ ap (starts_from 0) (lent_rows_are c.args.set.now c.lives-segment-items.result c.lives-segment-items.ensures));
     }
