@@ -195,7 +195,7 @@ module _ (s : SelectPlan) (ps : List ℕ) (reads : ReadsPlaces s ps) where
       (then_refused view (λ (r : List Row). r) fault (columns_from rows s.calls 0 s.windows) items refused))
 
   -- rows that are put in order by themselves, where nothing calls for a window
-  unwindowed_is : (rows : List Row) → is_sound_select s ≡ true → length s.windows ≡ 0 → left_items s rows ≡ items_of s (beside rows [])
+  pub unwindowed_is : (rows : List Row) → is_sound_select s ≡ true → length s.windows ≡ 0 → left_items s rows ≡ items_of s (beside rows [])
   unwindowed_is rows sound none = no_calls s rows none sound ∙ ap (items_of s) (sym (beside_nothing rows))
 
   pub sorted_is : (rows : List Row) (numbers bytes : List ℕ) → is_sound_select s ≡ true → length s.windows ≡ 0
