@@ -1,5 +1,5 @@
 -- The text of the rows of the table that are asked for, as they stand.
-use Rattle.std.proofs.Common.{◌≡◌, ℕ, List, [], length, map, None, Result, Ok, Err, sym, ap, ◌∙◌, subst}
+use Rattle.std.proofs.Common.{◌≡◌, ℕ, true, List, [], length, map, None, Result, Ok, Err, sym, ap, ◌∙◌, subst}
 use Rattle.wplan.specs.Plans.{SelectPlan}
 use Rattle.wprinted.specs.Printing.{table_text, values_at}
 use Rattle.wrows.specs.declared.fault.AnswerFault.{AnswerFault}
